@@ -1,0 +1,5 @@
+use Rattle.std.proofs.Common.{refl}
+use Rattle.ia32_step.proofs.run.Goals as goal
+
+pub execute-requires : goal.execute-requires
+execute-requires c = ((c.in-One.ensures.exact _).0 refl).operands

@@ -1,0 +1,7 @@
+pub mod Registers
+pub mod Seen
+pub mod State
+pub mod Grammar
+pub mod Meaning
+pub mod Slots
+pub mod Machine

@@ -1,0 +1,261 @@
+//! Guest memory: a finite map from addresses to a byte and its rights, kept as a list of regions.
+#![tactic(auto)]
+
+ghost use Rattle.std.specs.Prelude.{◌≡◌, ℕ, ◌+◌, ◌-◌, ◌≤◌, ◌<◌, ◌++◌, length, take, drop, IfOk, IfErr, OnOk, OnErr, ◌^◌, min, Ok, Err, Some, None, ◌≢◌};
+ghost use Rattle.std.specs.FinMap as map;
+ghost use Rattle.nd_mem.specs.Space.{IsLow, first_fault, answer_of, bytes_from, put_from, zeros_from, executable_run, region_refusal, fault_at, Any, Reading, Writing, Executing};
+
+use nd_base::Addr;
+use regions::{Purpose, Region};
+use std::alloc::Global;
+use std::marker::Model;
+
+mod regions;
+
+/// The first address that no region may hold: from here on stand addresses that are served in
+/// place of memory.
+const END: u64 = 0xF000_0000;
+
+/// What may be done with a byte, as with a page of the IA-32 manual (Intel SDM volume 3, 4.6).
+#[derive(Clone, Copy, Debug, PartialEq, Eq)]
+pub struct Rights {
+    pub read: bool,
+    pub write: bool,
+    pub execute: bool,
+}
+
+/// Why an access is refused: the first address that is not mapped or lacks the right.
+#[derive(Clone, Copy, Debug, PartialEq, Eq)]
+pub enum MemFault {
+    Unmapped(Addr),
+    NotReadable(Addr),
+    NotWritable(Addr),
+    NotExecutable(Addr),
+}
+
+/// Why a region is not added.
+#[derive(Clone, Copy, Debug, PartialEq, Eq)]
+pub enum RegionRefusal {
+    OutOfMemory,
+    /// It passes 0xEFFFFFFF.
+    High,
+    /// The first address of it that is mapped already.
+    Overlaps(Addr),
+}
+
+/// The memory of a guest.
+#[derive(Drop)]
+pub struct Memory {
+    regions: Vec<Region>,
+}
+
+impl Model for Memory {
+    ghost use Rattle.std.specs.FinMap as map;
+    ghost use Rattle.nd_mem.specs.Cell.{cell_code};
+    ghost use Rattle.nd_mem.specs.Space.{Space};
+    ghost use Rattle.std.specs.Coded.{coded_ℕ};
+
+    ghost Value = { Space };
+
+    ghost coded = { map.code coded_ℕ cell_code };
+
+    ghost use Rattle.nd_mem.specs.Regions.{cells_of, mapped, AreLaidOut};
+
+    ghost view = { λ m. mapped (cells_of m.regions.items) };
+
+    ghost invariant = { λ m. AreLaidOut m.regions.items };
+}
+
+impl Memory {
+    /// Nothing is mapped.
+    pub fn new(alloc: Global) -> Self
+        ensures { result ≡ map.empty }
+    {
+        Memory {
+            regions: Vec::new(alloc),
+        }
+    }
+
+    /// Why `len` bytes from `at` on can't be mapped, if they can't.
+    pub fn region_refusal(&self, at: Addr, len: u32) -> Option<RegionRefusal>
+        ensures { result ≡ region_refusal (map.get self.now) at.0 len }
+    {
+        let past = u64::from(at.0) + u64::from(len);
+        if past > END {
+            return Some(RegionRefusal::High);
+        }
+        let end = past as u32;
+        let first = regions::first_held(&self.regions, at.0, end);
+        if first < end {
+            return Some(RegionRefusal::Overlaps(Addr(first)));
+        }
+        None
+    }
+
+    /// Maps `len` zero bytes from `at` on.
+    pub fn add_region(
+        &mut self,
+        alloc: Global,
+        at: Addr,
+        len: u32,
+        rights: Rights,
+    ) -> Result<(), RegionRefusal>
+        ensures refusal { IfErr result (λ e. e ≢ RegionRefusal.OutOfMemory → region_refusal (map.get self.old) at.0 len ≡ Some e) }
+        ensures ok { OnOk result ((region_refusal (map.get self.old) at.0 len ≡ None)
+            × (self.new ≡ zeros_from self.old at.0 len rights)) }
+        ensures err { OnErr result (self.new ≡ self.old) }
+        ensures low { OnOk result (IsLow (map.get self.new)) }
+    {
+        let end = u64::from(at.0) + u64::from(len);
+        if end > END {
+            return Err(RegionRefusal::High);
+        }
+        let end = end as u32;
+        let first = regions::first_held(&self.regions, at.0, end);
+        if first < end {
+            return Err(RegionRefusal::Overlaps(Addr(first)));
+        }
+        let Ok(region) = Region::zeroed(alloc, at, len, rights) else {
+            return Err(RegionRefusal::OutOfMemory);
+        };
+        if self.regions.push(region).is_err() {
+            return Err(RegionRefusal::OutOfMemory);
+        }
+        Ok(())
+    }
+
+    /// Reads the bytes from `at` on into `out`. Addresses go on from 0xFFFFFFFF at 0.
+    pub fn read(&self, at: Addr, out: &mut [u8]) -> Result<(), MemFault>
+        ensures answer { result ≡ answer_of tt (first_fault Reading (map.get self.now) at.0 (length out.old)) }
+        ensures ok { OnOk result (out.new ≡ bytes_from (map.get self.now) at.0 (length out.old)) }
+        ensures err { OnErr result (out.new ≡ out.old) }
+        ensures low { IsLow (map.get self.now) }
+    {
+        regions::read_runs(&self.regions, at, out)
+    }
+
+    /// Writes the bytes from `at` on, where each may be written.
+    pub fn write(&mut self, at: Addr, bytes: &[u8]) -> Result<(), MemFault>
+        ensures answer { result ≡ answer_of tt (first_fault Writing (map.get self.old) at.0 (length bytes.now)) }
+        ensures ok { OnOk result (self.new ≡ put_from self.old at.0 bytes.now) }
+        ensures err { OnErr result (self.new ≡ self.old) }
+        ensures low { IsLow (map.get self.new) }
+    {
+        regions::write_runs(&mut self.regions, Purpose::Write, at, bytes)
+    }
+
+    /// Writes the bytes from `at` on, whatever the rights there.
+    pub fn place(&mut self, at: Addr, bytes: &[u8]) -> Result<(), MemFault>
+        ensures answer { result ≡ answer_of tt (first_fault Any (map.get self.old) at.0 (length bytes.now)) }
+        ensures ok { OnOk result (self.new ≡ put_from self.old at.0 bytes.now) }
+        ensures err { OnErr result (self.new ≡ self.old) }
+        ensures low { IsLow (map.get self.new) }
+    {
+        regions::write_runs(&mut self.regions, Purpose::Place, at, bytes)
+    }
+
+    /// Reads into the front of `out` the bytes from `at` on that can be executed, and answers how
+    /// many they are, 1 to 15.
+    pub fn fetch(&self, at: Addr, out: &mut [u8; 15]) -> Result<usize, MemFault>
+        ensures answer { result ≡ answer_of (executable_run (map.get self.now) at.0 15) (fault_at Executing (map.get self.now) at.0) }
+        ensures ok { IfOk result (λ n. take n out.new ≡ bytes_from (map.get self.now) at.0 n) }
+        ensures rest { IfOk result (λ n. drop n out.new ≡ drop n out.old) }
+        ensures err { OnErr result (out.new ≡ out.old) }
+        ensures low { IsLow (map.get self.now) }
+    {
+        let run = regions::run_from(&self.regions, Purpose::Execute, at)?;
+        Ok(regions::fetch_runs(&self.regions, at, run, out))
+    }
+}
+
+#[cfg(test)]
+mod tests {
+    use super::*;
+    use std::test::Fail;
+
+    const ALL: Rights = Rights {
+        read: true,
+        write: true,
+        execute: true,
+    };
+
+    const READ_ONLY: Rights = Rights {
+        read: true,
+        write: false,
+        execute: false,
+    };
+
+    #[test]
+    fn a_write_goes_on_in_the_next_region(rt: HostRuntime) -> Result<(), Fail> {
+        let mut memory = Memory::new(rt.alloc());
+        memory.add_region(rt.alloc(), Addr(0x1010), 16, ALL)?;
+        memory.add_region(rt.alloc(), Addr(0x1000), 16, ALL)?;
+        memory.write(Addr(0x100E), &[1, 2, 3, 4])?;
+        let mut out = [9; 6];
+        memory.read(Addr(0x100D), &mut out)?;
+        assert_eq!(rt; out.as_slice(), [0, 1, 2, 3, 4, 0].as_slice());
+        Ok(())
+    }
+
+    #[test]
+    fn a_refused_write_changes_nothing(rt: HostRuntime) -> Result<(), Fail> {
+        let mut memory = Memory::new(rt.alloc());
+        memory.add_region(rt.alloc(), Addr(0x1000), 4, ALL)?;
+        memory.add_region(rt.alloc(), Addr(0x1004), 4, READ_ONLY)?;
+        let refused = memory.write(Addr(0x1002), &[1, 2, 3, 4]);
+        assert_eq!(rt; refused, Err(MemFault::NotWritable(Addr(0x1004))));
+        let mut out = [9; 4];
+        memory.read(Addr(0x1002), &mut out)?;
+        assert_eq!(rt; out.as_slice(), [0, 0, 0, 0].as_slice());
+        memory.place(Addr(0x1002), &[1, 2, 3, 4])?;
+        memory.read(Addr(0x1002), &mut out)?;
+        assert_eq!(rt; out.as_slice(), [1, 2, 3, 4].as_slice());
+        Ok(())
+    }
+
+    #[test]
+    fn addresses_wrap(rt: HostRuntime) -> Result<(), Fail> {
+        let mut memory = Memory::new(rt.alloc());
+        memory.add_region(rt.alloc(), Addr(0), 4, ALL)?;
+        let mut out = [9; 2];
+        let refused = memory.read(Addr(0xFFFF_FFFF), &mut out);
+        assert_eq!(rt; refused, Err(MemFault::Unmapped(Addr(0xFFFF_FFFF))));
+        assert_eq!(rt; out.as_slice(), [9, 9].as_slice());
+        Ok(())
+    }
+
+    #[test]
+    fn a_fetch_ends_with_its_region(rt: HostRuntime) -> Result<(), Fail> {
+        let mut memory = Memory::new(rt.alloc());
+        memory.add_region(rt.alloc(), Addr(0x2000), 20, ALL)?;
+        memory.add_region(rt.alloc(), Addr(0x2014), 4, READ_ONLY)?;
+        memory.place(Addr(0x2012), &[0xC3, 0x90, 7])?;
+        let mut code = [9; 15];
+        assert_eq!(rt; memory.fetch(Addr(0x2000), &mut code), Ok(15));
+        assert_eq!(rt; memory.fetch(Addr(0x2012), &mut code), Ok(2));
+        assert_eq!(rt;
+            code.as_slice(),
+            [0xC3, 0x90, 0, 0, 0, 0, 0, 0, 0, 0, 0, 0, 0, 0, 0].as_slice()
+        );
+        let refused = memory.fetch(Addr(0x2014), &mut code);
+        assert_eq!(rt; refused, Err(MemFault::NotExecutable(Addr(0x2014))));
+        Ok(())
+    }
+
+    #[test]
+    fn regions_are_apart_and_low(rt: HostRuntime) -> Result<(), Fail> {
+        let mut memory = Memory::new(rt.alloc());
+        memory.add_region(rt.alloc(), Addr(0x1000), 16, ALL)?;
+        let before = memory.add_region(rt.alloc(), Addr(0x0FF8), 32, ALL);
+        assert_eq!(rt; before, Err(RegionRefusal::Overlaps(Addr(0x1000))));
+        let inside = memory.add_region(rt.alloc(), Addr(0x1008), 32, ALL);
+        assert_eq!(rt; inside, Err(RegionRefusal::Overlaps(Addr(0x1008))));
+        let high = memory.add_region(rt.alloc(), Addr(0xEFFF_FFFF), 2, ALL);
+        assert_eq!(rt; high, Err(RegionRefusal::High));
+        memory.add_region(rt.alloc(), Addr(0xEFFF_FFFF), 1, ALL)?;
+        let mut out = [9; 1];
+        let unmapped = memory.read(Addr(0x1010), &mut out);
+        assert_eq!(rt; unmapped, Err(MemFault::Unmapped(Addr(0x1010))));
+        Ok(())
+    }
+}

@@ -1,0 +1,45 @@
+-- What is known of a command's status and of what it printed.
+use Rattle.std.proofs.Common.{◌≡◌, ℕ, ◌≤◌, ◌<◌, ◌⊎◌, inl, inr, List, map, length, get_or, string_bytes, lit<, sym, ap, ◌∙◌, arith}
+use Rattle.std.proofs.Math.ListN.{get_or-map}
+use Rattle.std.proofs.lemmas.List.{length-map}
+use Rattle.std.specs.Prelude.{String}
+use Rattle.std.specs.Global.{Global}
+use Rattle.ndis_run.specs.Words.{IsRunZero}
+use Rattle.ndis_run.specs.declared.session.Ending.{Ending}
+use Rattle.ndis_run.specs.declared.session.Ending.TheVariants.{Left, Faulting, Spent}
+use Rattle.ndis_run.specs.Tool.{status_of}
+use Rattle.nd_base.specs.Files.{Rose}
+
+-- a count that rose has risen later too
+pub Rose-later : (before mid now : ℕ) → before ≤ mid → mid ≤ now → Rose before mid → Rose before now
+Rose-later before mid now low later (inl less) = inl (omega arith)
+Rose-later before mid now low later (inr last) = grind arith
+
+pub status_small : (ending : Ending) → status_of ending < 2
+status_small (Left status) = lit< tt
+status_small Faulting = lit< tt
+status_small Spent = lit< tt
+
+pub first_of_three : (result status : ℕ) → (result ≡ status) ⊎ (result ≡ 4) ⊎ (result ≡ 10) → result < 2 → result ≡ status
+first_of_three result status known less = grind arith
+
+pub no_other : (result status : ℕ) → (result ≡ status) ⊎ (result ≡ 4) ⊎ (result ≡ 10) → status < 2 → (result ≡ 3 → ⊥) × (result ≡ 5 → ⊥)
+no_other result status known small = (λ e. grind arith, λ e. grind arith)
+
+pub others_of : (result status : ℕ) → (result ≡ status) ⊎ (result ≡ 4) ⊎ (result ≡ 10) → status < 2 → (result < 2) ⊎ (result ≡ 3) ⊎ (result ≡ 4) ⊎ (result ≡ 5) ⊎ (result ≡ 10)
+others_of result status known small = grind arith
+
+-- ---- words
+
+pub length_of_form : (words : List (String Global)) (texts : List (List ℕ)) → map string_bytes words ≡ texts → length words ≡ length texts
+length_of_form words texts is = sym (length-map words string_bytes) ∙ ap length is
+
+pub word_of_form : (words : List (String Global)) (texts : List (List ℕ)) (k : ℕ) (word : String Global) → map string_bytes words ≡ texts → k < length words → word ≡ get_or words k word → string_bytes word ≡ get_or texts k (string_bytes word)
+word_of_form words texts k word is inside at = ap string_bytes at ∙ sym (get_or-map string_bytes words k word) ∙ ap (λ xs. get_or xs k (string_bytes word)) is
+
+-- the names that `run0` was given are its second and third word
+pub named : (words : List (String Global)) (sys log : List ℕ) (first second : String Global) → IsRunZero (map string_bytes words) sys log → first ≡ get_or words 1 first → second ≡ get_or words 2 second
+    → (string_bytes first ≡ sys) × (string_bytes second ≡ log)
+named words sys log first second form at_first at_second =
+    let three : length words ≡ 3 = length_of_form words _ form.form in
+    (word_of_form words _ 1 first form.form (omega arith) at_first, word_of_form words _ 2 second form.form (omega arith) at_second)

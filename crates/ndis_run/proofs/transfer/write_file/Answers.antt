@@ -1,0 +1,14 @@
+use Rattle.nd_base.proofs.FileCalls.{OnlyWrites-trans, writable-writes}
+use Rattle.ndis_run.proofs.Pieces.{appended_more, count_within, count_inside}
+use Rattle.ndis_run.proofs.transfer.write_file.Goals as goal
+
+pub loop-done-preserved : goal.loop-done-preserved
+loop-done-preserved g c =
+    let before = c.loop-done.invariant in
+    let count = c.in_ok-done.ensures.count in
+    record {
+      within = count_inside c.args.bytes.now c.loop-done.done _ _ before.within count;
+      writable = writable-writes c.append.ensures.only c.args.name.now before.writable;
+      told = λ m is. appended_more _ m c.args.name.now c.args.bytes.now c.loop-done.done c.in_ok-done.field-0 _ (count_within c.args.bytes.now c.loop-done.done _ _ count) (c.in_ok-done.ensures.known _ (before.told m is));
+      only = OnlyWrites-trans before.only c.append.ensures.only;
+    }

@@ -1,0 +1,15 @@
+use Rattle.std.proofs.Common.{◌≡◌, ◌≤◌, ◌-◌, Some, take, length, IsTrue}
+use Rattle.std.specs.FinMap.{insert}
+use Rattle.nd_base.specs.Files.{Kept, OnlyWrites}
+use Rattle.ndis_run.proofs.transfer.write_file.Given as goal
+
+abbrev pub invariant-loop-done : goal.invariant-loop-done
+invariant-loop-done g l = record {
+  within : l.done ≤ length l.bytes;
+  writable : IsTrue (g.F.Files.may_write l.files l.name);
+  told : (m : Kept) → g.F.Files.kept l.fn.files ≡ Some m → g.F.Files.kept l.files ≡ Some (insert m l.name (take l.done l.bytes));
+  only : OnlyWrites g.F.Files.read_faults g.F.Files.write_faults g.F.Files.may_read g.F.Files.may_write l.fn.files l.files;
+}
+
+abbrev pub decreases-loop-done : goal.decreases-loop-done
+decreases-loop-done g l = length l.bytes - l.done

@@ -1,0 +1,62 @@
+-- What a command leaves: its status, the files, and what it prints. Here and below a count of faults that stands at its last value is one that rose.
+use Rattle.std.specs.Prelude.{◌≡◌, ℕ, ◌<◌, ◌⊎◌, List, Option, Some}
+use Rattle.std.specs.FinMap.{insert}
+use Rattle.nd_base.specs.Files.{Kept, bytes_at, Rose}
+use Rattle.pe_image.specs.declared.image.PeRefusal.{PeRefusal}
+use Rattle.pe_image.specs.Image.{ImageParts}
+use Rattle.pe_image.specs.FirstForm.{IsFirstForm, parts_of, refused}
+use Rattle.ndis_run.specs.declared.entries.Entry.{Entry}
+use Rattle.ndis_run.specs.declared.session.Ending.{Ending}
+use Rattle.ndis_run.specs.declared.session.Ending.TheVariants.{Left, Faulting, Spent}
+use Rattle.ndis_run.specs.Entries.{text_of}
+use Rattle.ndis_run.specs.Printed.{driver_entry_line, read_line, image_line}
+use Rattle.ndis_run.specs.Run.{Inputs, IsWhole, charged}
+use Rattle.ndis_run.specs.Transfer.{Adds}
+
+-- DriverEntry of an image alone, with the usual budget
+abbrev pub usual : ImageParts → Inputs
+usual image = record { image = image; budget = 4000000 }
+
+-- a whole run of an image, its text, and the sum of its turns
+pub record HasRun (image : ImageParts) (ending : Ending) (sum : ℕ) (text : List ℕ) : Type 0 where
+  pub entries : List Entry
+  pub whole : IsWhole (usual image) entries ending
+  pub is_sum : sum ≡ charged entries
+  pub is_text : text ≡ text_of entries
+
+-- the status of a run's end
+abbrev pub status_of : Ending → ℕ
+status_of (Left status) = 0
+status_of Faulting = 1
+status_of Spent = 1
+
+-- What stands where `run0 SYS LOG` ends with 0 or 1, and the files tell their bytes: there is one list of entries, a whole run of the image
+-- that SYS held; LOG holds its text, and no other file changed; one line was printed, with the way it ended and the sum of its turns.
+pub record RanZero (m : Kept) (sys log : List ℕ) (status : ℕ) (kept : Option Kept) (before after : Option (List ℕ)) : Type 0 where
+  pub form : IsFirstForm (bytes_at m sys)
+  pub entries : List Entry
+  pub ending : Ending
+  pub whole : IsWhole (usual (parts_of (bytes_at m sys))) entries ending
+  pub is_status : status ≡ status_of ending
+  pub file : kept ≡ Some (insert m log (text_of entries))
+  pub printed : Adds before after (driver_entry_line ending (charged entries))
+
+-- what `run0 SYS LOG` leaves
+pub record EndsZero (sys log : List ℕ) (status : ℕ) (kept kept' : Option Kept) (reads reads' writes writes' : ℕ) (before after : Option (List ℕ)) (faults faults' : ℕ) : Type 0 where
+  -- 0 or 1: the run
+  pub ran : status < 2 → (m : Kept) → kept ≡ Some m → RanZero m sys log status kept' before after
+  -- 3: only where a size or read failed; nothing changed, and one line was printed
+  pub unread : status ≡ 3 → Rose reads reads' × (kept' ≡ kept) × Adds before after (read_line sys)
+  -- 5: the image is refused; nothing changed, and one line was printed
+  pub refused : status ≡ 5 → (kept' ≡ kept) × ((m : Kept) → kept ≡ Some m → (r : PeRefusal) × (refused (bytes_at m sys) ≡ Some r) × Adds before after (image_line r))
+  -- 4: only where a create, append or write failed
+  pub unwritten : status ≡ 4 → Rose writes writes' ⊎ Rose faults faults'
+  -- no other status, but 10 for want of memory
+  pub others : (status < 2) ⊎ (status ≡ 3) ⊎ (status ≡ 4) ⊎ (status ≡ 5) ⊎ (status ≡ 10)
+
+-- What a command leaves that only prints: no file changes, and with its status this text was printed; else the write failed, or memory is wanted.
+pub record EndsWith (wanted : ℕ) (text : List ℕ) (status : ℕ) (kept kept' : Option Kept) (before after : Option (List ℕ)) (faults faults' : ℕ) : Type 0 where
+  pub known : (status ≡ wanted) ⊎ (status ≡ 4) ⊎ (status ≡ 10)
+  pub same : kept' ≡ kept
+  pub printed : status ≡ wanted → Adds before after text
+  pub unwritten : status ≡ 4 → Rose faults faults'

@@ -1,0 +1,29 @@
+-- Whole files and whole lines, moved by calls that may each move a part.
+use Rattle.std.specs.Prelude.{◌≡◌, ℕ, ◌≤◌, ◌++◌, ◌⊎◌, List, Option, Some, length, take}
+use Rattle.std.specs.FinMap.{insert}
+use Rattle.nd_base.specs.Files.{Kept}
+use Rattle.nd_base.specs.declared.fault.IoFault.{IoFault}
+use Rattle.nd_base.specs.declared.fault.IoFault.TheVariants as io
+use Rattle.ndis_run.specs.declared.transfer.ReadFailure.{ReadFailure}
+use Rattle.ndis_run.specs.declared.transfer.ReadFailure.TheVariants.{Failed, Memory}
+
+-- where what was written is told, these bytes were added
+abbrev pub Adds : Option (List ℕ) → Option (List ℕ) → List ℕ → Type 0
+Adds old new bytes = (before : List ℕ) → old ≡ Some before → new ≡ Some (before ++ bytes)
+
+-- where what was written is told, the first of these bytes were added
+abbrev pub AddsFront : Option (List ℕ) → Option (List ℕ) → List ℕ → Type 0
+AddsFront old new bytes = (before : List ℕ) → old ≡ Some before → (n : ℕ) × (n ≤ length bytes) × (new ≡ Some (before ++ take n bytes))
+
+-- where the files are told, one name now has these bytes, and no other changed
+abbrev pub Writes : Option Kept → Option Kept → List ℕ → List ℕ → Type 0
+Writes old new name bytes = (m : Kept) → old ≡ Some m → new ≡ Some (insert m name bytes)
+
+-- where the files are told, nothing changed, or one name now has the first of these bytes
+abbrev pub WritesFront : Option Kept → Option Kept → List ℕ → List ℕ → Type 0
+WritesFront old new name bytes = (m : Kept) → old ≡ Some m → (new ≡ Some m) ⊎ ((n : ℕ) × (n ≤ length bytes) × (new ≡ Some (insert m name (take n bytes))))
+
+-- a fault of a size or a read, as a failure to read the file
+abbrev pub read_failure : IoFault → ReadFailure
+read_failure io.Failed = Failed
+read_failure io.Memory = Memory

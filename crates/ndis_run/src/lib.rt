@@ -1,0 +1,19 @@
+//! The top calls: the commands, run over files and a sink.
+#![tactic(auto)]
+
+pub mod entries;
+pub mod guest;
+pub mod ndis;
+pub mod real_devices;
+pub mod run_zero;
+pub mod session;
+pub mod tool;
+pub mod transfer;
+pub mod words;
+
+pub use ndis::ndis_main;
+pub use real_devices::{RealFiles, RealSink};
+pub use tool::tool_main;
+
+#[cfg(test)]
+mod tests;

@@ -1,0 +1,4 @@
+pub mod File
+pub mod Image
+pub mod FirstForm
+pub mod Inside

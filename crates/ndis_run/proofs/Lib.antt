@@ -1,3 +1,4 @@
+pub mod EndsLaws
 pub mod GuestMap
 pub mod Hex
 pub mod Pieces

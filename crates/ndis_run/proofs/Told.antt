@@ -1,5 +1,6 @@
 -- What is known of a command's status and of what it printed.
-use Rattle.std.proofs.Common.{◌≡◌, ℕ, ◌≤◌, ◌<◌, ◌⊎◌, inl, inr, List, map, length, get_or, string_bytes, lit<, sym, ap, ◌∙◌, arith}
+use Rattle.std.proofs.Common.{◌≡◌, ℕ, ◌≤◌, ◌<◌, ◌⊎◌, inl, inr, List, map, length, get_or, string_bytes, lit<, sym, ap, ◌∙◌, arith, Option, codes, zero-le, refl, Some, ◌++◌, take, subst, [], ◌∷◌}
+use Rattle.std.proofs.lemmas.List.{append-nil}
 use Rattle.std.proofs.Math.ListN.{get_or-map}
 use Rattle.std.proofs.lemmas.List.{length-map}
 use Rattle.std.specs.Prelude.{String}
@@ -7,7 +8,9 @@ use Rattle.std.specs.Global.{Global}
 use Rattle.ndis_run.specs.Words.{IsRunZero}
 use Rattle.ndis_run.specs.declared.session.Ending.{Ending}
 use Rattle.ndis_run.specs.declared.session.Ending.TheVariants.{Left, Faulting, Spent}
-use Rattle.ndis_run.specs.Tool.{status_of}
+use Rattle.ndis_run.specs.Tool.{status_of, AddsFronts, BreaksOff}
+use Rattle.ndis_run.specs.Transfer.{AddsFront}
+use Rattle.ndis_run.specs.Printed.{write_line}
 use Rattle.nd_base.specs.Files.{Rose}
 
 -- a count that rose has risen later too
@@ -43,3 +46,43 @@ pub named : (words : List (String Global)) (sys log : List ℕ) (first second : 
 named words sys log first second form at_first at_second =
     let three : length words ≡ 3 = length_of_form words _ form.form in
     (word_of_form words _ 1 first form.form (omega arith) at_first, word_of_form words _ 2 second form.form (omega arith) at_second)
+
+-- ---- what was printed where a command breaks off
+
+pub fronts_of : (before mid after : Option (List ℕ)) (line last : List ℕ) → AddsFront before mid line → AddsFront mid after last → AddsFronts before after line last
+fronts_of before mid after line last of_line of_last = λ first is.
+    let a = of_line first is in
+    let b = of_last _ a.2 in
+    (a.0, b.0, a.1, b.1, b.2)
+
+-- where nothing of the command's line was printed
+pub last_alone : (before after : Option (List ℕ)) (line last : List ℕ) → AddsFront before after last → AddsFronts before after line last
+last_alone before after line last of_last = λ first is.
+    let b = of_last first is in
+    (0, b.0, zero-le, b.1, b.2 ∙ ap (λ xs. Some (xs ++ take b.0 last)) (sym (append-nil first)))
+
+pub off_by_memory : (name line : List ℕ) (before mid after : Option (List ℕ)) → AddsFront before mid line → AddsFront mid after (codes "memory\n") → BreaksOff name line before after
+off_by_memory name line before mid after of_line of_last = record { last = codes "memory\n"; is_last = inr (inr refl); fronts = fronts_of before mid after line _ of_line of_last }
+
+pub off_by_print : (name line : List ℕ) (before mid after : Option (List ℕ)) → AddsFront before mid line → AddsFront mid after (codes "write -\n") → BreaksOff name line before after
+off_by_print name line before mid after of_line of_last = record { last = write_line (codes "-"); is_last = inr (inl refl); fronts = fronts_of before mid after line _ of_line of_last }
+
+pub off_at_once : (name line : List ℕ) (before after : Option (List ℕ)) → AddsFront before after (codes "memory\n") → BreaksOff name line before after
+off_at_once name line before after of_last = record { last = codes "memory\n"; is_last = inr (inr refl); fronts = last_alone before after line _ of_last }
+
+pub off_by_name : (name line : List ℕ) (before after : Option (List ℕ)) → AddsFront before after (write_line name) → BreaksOff name line before after
+off_by_name name line before after of_last = record { last = write_line name; is_last = inl refl; fronts = last_alone before after line _ of_last }
+
+-- a text that is known by another name
+pub off_same : (name : List ℕ) (line text : List ℕ) (before after : Option (List ℕ)) → text ≡ line → BreaksOff name text before after → BreaksOff name line before after
+off_same name line text before after same off = subst (λ (l : List ℕ). BreaksOff name l before after) same off
+
+pub off_by_text : (name line text : List ℕ) (before after : Option (List ℕ)) → text ≡ write_line name → AddsFront before after text → BreaksOff name line before after
+off_by_text name line text before after same front = off_by_name name line before after (subst (λ (l : List ℕ). AddsFront before after l) same front)
+
+pub front_same : (before after : Option (List ℕ)) (text line : List ℕ) → text ≡ line → AddsFront before after text → AddsFront before after line
+front_same before after text line same front = subst (λ (l : List ℕ). AddsFront before after l) same front
+
+pub whole_front : (xs : List ℕ) → take (length xs) xs ≡ xs
+whole_front [] = refl
+whole_front (x ∷ xs) = ap (λ ys. x ∷ ys) (whole_front xs)

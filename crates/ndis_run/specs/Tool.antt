@@ -1,5 +1,8 @@
 -- What a command leaves: its status, the files, and what it prints. Here and below a count of faults that stands at its last value is one that rose.
 use Rattle.std.specs.Prelude.{◌≡◌, ℕ, ◌<◌, ◌⊎◌, List, Option, Some}
+use Rattle.std.specs.Prelude.{◌≤◌, ◌++◌, length, take, codes}
+use Rattle.ndis_run.specs.Run.{Run}
+use Rattle.ndis_run.specs.Printed.{write_line}
 use Rattle.std.specs.FinMap.{insert}
 use Rattle.nd_base.specs.Files.{Kept, bytes_at, Rose}
 use Rattle.pe_image.specs.declared.image.PeRefusal.{PeRefusal}
@@ -9,8 +12,8 @@ use Rattle.ndis_run.specs.declared.entries.Entry.{Entry}
 use Rattle.ndis_run.specs.declared.session.Ending.{Ending}
 use Rattle.ndis_run.specs.declared.session.Ending.TheVariants.{Left, Faulting, Spent}
 use Rattle.ndis_run.specs.Entries.{text_of}
-use Rattle.ndis_run.specs.Printed.{driver_entry_line, read_line, image_line}
-use Rattle.ndis_run.specs.Run.{Inputs, IsWhole, charged}
+use Rattle.ndis_run.specs.Printed.{driver_entry_line, read_line, image_line, write_line}
+use Rattle.ndis_run.specs.Run.{Inputs, Run, IsWhole, charged}
 use Rattle.ndis_run.specs.Transfer.{Adds}
 
 -- DriverEntry of an image alone, with the usual budget
@@ -41,6 +44,34 @@ pub record RanZero (m : Kept) (sys log : List ℕ) (status : ℕ) (kept : Option
   pub file : kept ≡ Some (insert m log (text_of entries))
   pub printed : Adds before after (driver_entry_line ending (charged entries))
 
+-- What stands where want of memory or a failed write ended `run0 SYS LOG`, and the files tell their bytes: no file changed, or LOG holds a front
+-- of the text of a run of the image that SYS held, and no other file changed.
+pub record BrokeOff (m : Kept) (sys log : List ℕ) (kept : Option Kept) : Type 0 where
+  pub entries : List Entry
+  pub run : Run (usual (parts_of (bytes_at m sys))) entries
+  pub count : ℕ
+  pub within : count ≤ length (text_of entries)
+  pub file : kept ≡ Some (insert m log (take count (text_of entries)))
+
+abbrev pub LeavesFront : Kept → List ℕ → List ℕ → Option Kept → Type 0
+LeavesFront m sys log kept = (kept ≡ Some m) ⊎ BrokeOff m sys log kept
+
+-- a front of a line was printed, and then a front of another
+abbrev pub AddsFronts : Option (List ℕ) → Option (List ℕ) → List ℕ → List ℕ → Type 0
+AddsFronts before after line last = (first : List ℕ) → before ≡ Some first
+    → (n : ℕ) × (k : ℕ) × (n ≤ length line) × (k ≤ length last) × (after ≡ Some (first ++ take n line ++ take k last))
+
+-- What is printed where a write failed or memory is wanted: a front of the command's line, and then a front of a last line, which names what was
+-- not written (a file, or `-` for what is printed itself) or says that memory is wanted.
+pub record BreaksOff (name line : List ℕ) (before after : Option (List ℕ)) : Type 0 where
+  pub last : List ℕ
+  pub is_last : (last ≡ write_line name) ⊎ (last ≡ write_line (codes "-")) ⊎ (last ≡ codes "memory\n")
+  pub fronts : AddsFronts before after line last
+
+-- a line that `run0 SYS LOG` prints where nothing fails
+abbrev pub IsLineOfZero : List ℕ → List ℕ → Type 0
+IsLineOfZero sys line = ((ending : Ending) × (n : ℕ) × (line ≡ driver_entry_line ending n)) ⊎ (line ≡ read_line sys) ⊎ ((r : PeRefusal) × (line ≡ image_line r))
+
 -- what `run0 SYS LOG` leaves
 pub record EndsZero (sys log : List ℕ) (status : ℕ) (kept kept' : Option Kept) (reads reads' writes writes' : ℕ) (before after : Option (List ℕ)) (faults faults' : ℕ) : Type 0 where
   -- 0 or 1: the run
@@ -51,6 +82,11 @@ pub record EndsZero (sys log : List ℕ) (status : ℕ) (kept kept' : Option Kep
   pub refused : status ≡ 5 → (kept' ≡ kept) × ((m : Kept) → kept ≡ Some m → (r : PeRefusal) × (refused (bytes_at m sys) ≡ Some r) × Adds before after (image_line r))
   -- 4: only where a create, append or write failed
   pub unwritten : status ≡ 4 → Rose writes writes' ⊎ Rose faults faults'
+  -- and where no write of out failed, one line was printed, which names LOG
+  pub unwritten_log : status ≡ 4 → (Rose faults faults' → ⊥) → Adds before after (write_line log)
+  -- 4 and 10: what stands in the files, and what was printed
+  pub broke_off : (status ≡ 4) ⊎ (status ≡ 10) → (m : Kept) → kept ≡ Some m → LeavesFront m sys log kept'
+  pub closing : (status ≡ 4) ⊎ (status ≡ 10) → (line : List ℕ) × IsLineOfZero sys line × BreaksOff log line before after
   -- no other status, but 10 for want of memory
   pub others : (status < 2) ⊎ (status ≡ 3) ⊎ (status ≡ 4) ⊎ (status ≡ 5) ⊎ (status ≡ 10)
 
@@ -60,3 +96,4 @@ pub record EndsWith (wanted : ℕ) (text : List ℕ) (status : ℕ) (kept kept' 
   pub same : kept' ≡ kept
   pub printed : status ≡ wanted → Adds before after text
   pub unwritten : status ≡ 4 → Rose faults faults'
+  pub closing : (status ≡ 4) ⊎ (status ≡ 10) → BreaksOff (codes "-") text before after

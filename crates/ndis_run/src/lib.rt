@@ -3,6 +3,7 @@
 
 pub mod entries;
 pub mod guest;
+pub mod laws;
 pub mod ndis;
 pub mod real_devices;
 pub mod run_zero;
@@ -15,5 +16,7 @@ pub use ndis::ndis_main;
 pub use real_devices::{RealFiles, RealSink};
 pub use tool::tool_main;
 
+#[cfg(test)]
+mod bytewise;
 #[cfg(test)]
 mod tests;

@@ -7,7 +7,7 @@ ghost use Rattle.pe_image.specs.FirstForm.{IsFirstForm, parts_of, refused};
 ghost use Rattle.ndis_run.specs.Printed.{driver_entry_line, ending_text};
 ghost use Rattle.ndis_run.specs.Run.{Inputs};
 ghost use Rattle.ndis_run.specs.Transfer.{WritesFront};
-ghost use Rattle.ndis_run.specs.Tool.{HasRun, usual};
+ghost use Rattle.ndis_run.specs.Tool.{HasRun, LeavesFront, usual};
 
 use crate::entries::text_of;
 use crate::session::{Ending, Session};
@@ -111,6 +111,7 @@ pub fn log_run<F: Files>(
         × ((m : Kept) → F.kept files.old ≡ Some m → refused (bytes_at m sys.now) ≡ Some r)) }
     ensures unread { IsErrOf result Failure.Unread → Rose (F.read_faults files.old) (F.read_faults files.new) × (F.kept files.new ≡ F.kept files.old) }
     ensures unwritten { IsErrOf result Failure.Unwritten → Rose (F.write_faults files.old) (F.write_faults files.new) }
+    ensures broke_off { OnErr result ((m : Kept) → F.kept files.old ≡ Some m → LeavesFront m sys.now log.now (F.kept files.new)) }
 {
     let image = match read_image(alloc, files, sys) {
         Ok(image) => image,

@@ -1,6 +1,8 @@
 use super::*;
+use crate::bytewise::Bytewise;
 use nd_base::{MemFiles, MemSink, OpenGate};
 use std::alloc::{AllocError, Global};
+use std::process::Abort;
 use std::test::Fail;
 
 /// Five is moved into EAX, minus five added, and eight bytes returned.
@@ -51,11 +53,16 @@ fn files_with(alloc: Global, code: &[u8]) -> Result<MemFiles, Fail> {
     Ok(files)
 }
 
-fn run(alloc: Global, files: &mut MemFiles, out: &mut MemSink) -> Result<u8, Fail> {
+fn words(alloc: Global) -> Result<Vec<String>, AllocError> {
     let mut words = Vec::new(alloc);
     words.push(String::from_str(alloc, "run0")?)?;
     words.push(String::from_str(alloc, "driver.sys")?)?;
     words.push(String::from_str(alloc, "run.log")?)?;
+    Ok(words)
+}
+
+fn run(alloc: Global, files: &mut MemFiles, out: &mut MemSink) -> Result<u8, Fail> {
+    let words = words(alloc)?;
     Ok(tool_main(alloc, &words, files, out))
 }
 
@@ -72,10 +79,7 @@ fn runs_to_the_return(rt: HostRuntime) -> Result<(), Fail> {
     let alloc = rt.alloc();
     let mut files = files_with(alloc, &RETURNS)?;
     let mut out = MemSink::new(alloc);
-    let mut words = Vec::new(alloc);
-    words.push(String::from_str(alloc, "run0")?)?;
-    words.push(String::from_str(alloc, "driver.sys")?)?;
-    words.push(String::from_str(alloc, "run.log")?)?;
+    let words = words(alloc)?;
     let status = ndis_main(alloc, &rt, &words, &mut files, &mut out, &OpenGate);
     assert_eq!(rt; status, 0);
     let log = files.get("run.log").ok_or("no log")?;
@@ -104,16 +108,60 @@ fn runs_to_the_budget(rt: HostRuntime) -> Result<(), Fail> {
     Ok(())
 }
 
+/// A driver of this code ends with 1, this log behind the line of the enter, and this line.
+fn faults(
+    rt: &impl Abort,
+    alloc: Global,
+    code: &[u8],
+    log: &[u8],
+    line: &[u8],
+) -> Result<(), Fail> {
+    let mut files = files_with(alloc, code)?;
+    let mut out = MemSink::new(alloc);
+    assert_eq!(rt; run(alloc, &mut files, &mut out)?, 1);
+    let text = files.get("run.log").ok_or("no log")?;
+    assert!(rt; text.ends_with(log));
+    assert_eq!(rt; text.len(), 42 + log.len());
+    assert_eq!(rt; out.written(), line);
+    Ok(())
+}
+
 #[test]
 fn runs_to_a_fault(rt: HostRuntime) -> Result<(), Fail> {
     let alloc = rt.alloc();
-    let mut files = files_with(alloc, &[0xD9, 0xC0])?;
+    let outside = b"fault 0 outside 80101000\n";
+    faults(
+        &rt,
+        alloc,
+        &[0xD9, 0xC0],
+        outside,
+        b"driverentry fault charged 0\n",
+    )?;
+    // A jump over six bytes; the section ends in the middle of the instruction there.
+    let cut = b"turn 0 1\nfault 0 unmapped 8010100b\n";
+    let code = [0xEB, 6, 0, 0, 0, 0, 0, 0, 0xB8, 1, 2];
+    faults(&rt, alloc, &code, cut, b"driverentry fault charged 1\n")?;
+    // ESP is moved to 0, where nothing is mapped, and the return reads there.
+    let unread = b"turn 0 1\nfault 0 unmapped 00000000\n";
+    let code = [0xBC, 0, 0, 0, 0, 0xC2, 8, 0];
+    faults(&rt, alloc, &code, unread, b"driverentry fault charged 1\n")
+}
+
+#[test]
+fn moves_byte_by_byte(rt: HostRuntime) -> Result<(), Fail> {
+    let alloc = rt.alloc();
+    let files = files_with(alloc, &RETURNS)?;
+    let mut files = Bytewise { files };
     let mut out = MemSink::new(alloc);
-    assert_eq!(rt; run(alloc, &mut files, &mut out)?, 1);
-    let log = files.get("run.log").ok_or("no log")?;
-    let text = b"enter - 0 driverentry e0000000,e0000008 -\nfault 0 outside 80101000\n";
+    let words = words(alloc)?;
+    assert_eq!(rt; tool_main(alloc, &words, &mut files, &mut out), 0);
+    let log = files.files.get("run.log").ok_or("no log")?;
+    let text = b"enter - 0 driverentry e0000000,e0000008 -\nturn 0 3\nleave 0 00000000\n";
     assert_eq!(rt; log, text.as_slice());
-    assert_eq!(rt; out.written(), b"driverentry fault charged 0\n".as_slice());
+    assert_eq!(rt;
+        out.written(),
+        b"driverentry 00000000 charged 3\n".as_slice()
+    );
     Ok(())
 }
 
@@ -129,17 +177,27 @@ fn refuses_an_empty_image(rt: HostRuntime) -> Result<(), Fail> {
     Ok(())
 }
 
-#[test]
-fn wants_a_form_of_words(rt: HostRuntime) -> Result<(), Fail> {
-    let alloc = rt.alloc();
+/// These words are none of the forms.
+fn no_form(rt: &impl Abort, alloc: Global, row: &[&str]) -> Result<(), Fail> {
     let mut files = MemFiles::new(alloc);
     let mut out = MemSink::new(alloc);
     let mut words = Vec::new(alloc);
+    for word in row {
+        words.push(String::from_str(alloc, word)?)?;
+    }
     assert_eq!(rt; tool_main(alloc, &words, &mut files, &mut out), 2);
-    words.push(String::from_str(alloc, "run0")?)?;
-    assert_eq!(rt; tool_main(alloc, &words, &mut files, &mut out), 2);
-    assert_eq!(rt; out.written(), b"words\nwords\n".as_slice());
+    assert_eq!(rt; out.written(), b"words\n".as_slice());
     Ok(())
+}
+
+#[test]
+fn wants_a_form_of_words(rt: HostRuntime) -> Result<(), Fail> {
+    let alloc = rt.alloc();
+    no_form(&rt, alloc, &[])?;
+    no_form(&rt, alloc, &["run0"])?;
+    no_form(&rt, alloc, &["run0", "a"])?;
+    no_form(&rt, alloc, &["run0", "a", "b", "c"])?;
+    no_form(&rt, alloc, &["run", "a", "b", "c"])
 }
 
 #[test]

@@ -2,8 +2,8 @@
 
 ghost use Rattle.std.specs.Prelude.{◌≡◌, ◌≢◌, ℕ, ◌<◌, ◌≤◌, ◌⊎◌, Some, None, IfOk, IfErr, OnErr, IsTrue, IsErrOf, string_bytes, codes, map, List};
 ghost use Rattle.nd_base.specs.Files.{Kept, Rose};
-ghost use Rattle.ndis_run.specs.Transfer.{Adds};
-ghost use Rattle.ndis_run.specs.Tool.{EndsWith, EndsZero, status_of};
+ghost use Rattle.ndis_run.specs.Transfer.{Adds, AddsFront};
+ghost use Rattle.ndis_run.specs.Tool.{BreaksOff, EndsWith, EndsZero, status_of};
 ghost use Rattle.ndis_run.specs.Words.{IsForm, IsHelp, IsRunZero, IsVersion};
 ghost use Rattle.ndis_run.specs.Printed.{driver_entry_line, ending_text, image_line, read_line, write_line};
 
@@ -73,25 +73,36 @@ const NO_MEMORY: u8 = 10;
 /// Prints that no memory is left, as far as that can be printed.
 fn tell_memory<O: Sink>(out: &mut O) -> u8
     ensures status { result ≡ 10 }
+    ensures front { AddsFront (O.written out.old) (O.written out.new) (codes "memory\n") }
     ensures later { O.faults out.old ≤ O.faults out.new }
 {
     let _ = print(out, b"memory\n");
     NO_MEMORY
 }
 
+/// Prints that a line was not printed, as far as that can be printed.
+fn tell_unprinted<O: Sink>(out: &mut O) -> u8
+    ensures status { result ≡ 4 }
+    ensures front { AddsFront (O.written out.old) (O.written out.new) (codes "write -\n") }
+    ensures later { O.faults out.old ≤ O.faults out.new }
+{
+    let _ = print(out, b"write -\n");
+    UNWRITTEN
+}
+
 /// Prints a line, and answers the status that goes with it.
 fn tell<O: Sink>(out: &mut O, line: &str, status: u8) -> u8
+    requires written { status ≢ 4 }
+    requires remembered { status ≢ 10 }
     ensures known { (result ≡ status) ⊎ (result ≡ 4) ⊎ (result ≡ 10) }
-    ensures told { result ≢ 4 → result ≢ 10 → Adds (O.written out.old) (O.written out.new) line.now }
-    ensures untold { result ≡ 4 → status ≢ 4 → Rose (O.faults out.old) (O.faults out.new) }
+    ensures told { result ≡ status → Adds (O.written out.old) (O.written out.new) line.now }
+    ensures untold { result ≡ 4 → Rose (O.faults out.old) (O.faults out.new) }
+    ensures closing { (name : List ℕ) → (result ≡ 4) ⊎ (result ≡ 10) → BreaksOff name line.now (O.written out.old) (O.written out.new) }
 {
     match print(out, line.as_bytes()) {
         Ok(()) => status,
         Err(IoFault::Memory) => tell_memory(out),
-        Err(IoFault::Failed) => {
-            let _ = print(out, b"write -\n");
-            UNWRITTEN
-        }
+        Err(IoFault::Failed) => tell_unprinted(out),
     }
 }
 
@@ -100,6 +111,7 @@ fn tell_end<O: Sink>(alloc: Global, out: &mut O, ending: Ending, charged: u32) -
     ensures known { (result ≡ status_of ending) ⊎ (result ≡ 4) ⊎ (result ≡ 10) }
     ensures told { result < 2 → Adds (O.written out.old) (O.written out.new) (driver_entry_line ending charged) }
     ensures untold { result ≡ 4 → Rose (O.faults out.old) (O.faults out.new) }
+    ensures closing { (name : List ℕ) → (result ≡ 4) ⊎ (result ≡ 10) → BreaksOff name (driver_entry_line ending charged) (O.written out.old) (O.written out.new) }
 {
     let status = match ending {
         Ending::Left(_) => 0,
@@ -117,6 +129,7 @@ fn tell_unread<O: Sink>(alloc: Global, out: &mut O, sys: &str) -> u8
     ensures known { (result ≡ 3) ⊎ (result ≡ 4) ⊎ (result ≡ 10) }
     ensures told { result ≡ 3 → Adds (O.written out.old) (O.written out.new) (read_line sys.now) }
     ensures untold { result ≡ 4 → Rose (O.faults out.old) (O.faults out.new) }
+    ensures closing { (name : List ℕ) → (result ≡ 4) ⊎ (result ≡ 10) → BreaksOff name (read_line sys.now) (O.written out.old) (O.written out.new) }
 {
     match read_line(alloc, sys) {
         Ok(line) => tell(out, &line, UNREAD),
@@ -129,6 +142,7 @@ fn tell_refused<O: Sink>(alloc: Global, out: &mut O, refusal: PeRefusal) -> u8
     ensures known { (result ≡ 5) ⊎ (result ≡ 4) ⊎ (result ≡ 10) }
     ensures told { result ≡ 5 → Adds (O.written out.old) (O.written out.new) (image_line refusal) }
     ensures untold { result ≡ 4 → Rose (O.faults out.old) (O.faults out.new) }
+    ensures closing { (name : List ℕ) → (result ≡ 4) ⊎ (result ≡ 10) → BreaksOff name (image_line refusal) (O.written out.old) (O.written out.new) }
 {
     match image_line(alloc, refusal) {
         Ok(line) => tell(out, &line, IMAGE_REFUSED),
@@ -139,10 +153,16 @@ fn tell_refused<O: Sink>(alloc: Global, out: &mut O, refusal: PeRefusal) -> u8
 /// Prints that a file was not written.
 fn tell_unwritten<O: Sink>(alloc: Global, out: &mut O, name: &str) -> u8
     ensures known { (result ≡ 4) ⊎ (result ≡ 10) }
+    ensures told { result ≡ 4 → (Rose (O.faults out.old) (O.faults out.new) → ⊥) → Adds (O.written out.old) (O.written out.new) (write_line name.now) }
+    ensures closing { (line : List ℕ) → BreaksOff name.now line (O.written out.old) (O.written out.new) }
 {
-    match write_line(alloc, name) {
-        Ok(line) => tell(out, &line, UNWRITTEN),
-        Err(_) => tell_memory(out),
+    let Ok(line) = write_line(alloc, name) else {
+        return tell_memory(out);
+    };
+    match print(out, line.as_bytes()) {
+        Ok(()) => UNWRITTEN,
+        Err(IoFault::Failed) => UNWRITTEN,
+        Err(IoFault::Memory) => NO_MEMORY,
     }
 }
 

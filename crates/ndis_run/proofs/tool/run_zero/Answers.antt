@@ -1,7 +1,9 @@
 use Rattle.std.proofs.Common.{◌++◌, Some, ap, ◌∙◌, inr}
 use Rattle.std.specs.FinMap.{insert}
-use Rattle.ndis_run.specs.Printed.{driver_entry_line}
-use Rattle.ndis_run.proofs.Told.{status_small, first_of_three, no_other, others_of}
+use Rattle.std.proofs.Common.{inl, refl, rules, length, sym, arith}
+use Rattle.ndis_run.specs.Entries.{text_of}
+use Rattle.ndis_run.specs.Printed.{driver_entry_line, read_line, image_line}
+use Rattle.ndis_run.proofs.Told.{status_small, first_of_three, no_other, others_of, off_at_once, whole_front}
 use Rattle.ndis_run.proofs.tool.run_zero.Goals as goal
 
 pub returns-in-Ok : goal.returns-in-Ok
@@ -22,5 +24,62 @@ returns-in-Ok g c =
       unread = λ e. absurd ((no_other _ _ known small).0 e);
       refused = λ e. absurd ((no_other _ _ known small).1 e);
       unwritten = λ e. inr (c.tell_end.ensures.untold e);
+      unwritten_log = λ e none. absurd (none (c.tell_end.ensures.untold e));
+      broke_off = λ _ m is. let f = c.in-Ok.ensures.ran m is in inr (record {
+        entries = f.1.entries;
+        run = f.1.whole.run;
+        count = length (text_of f.1.entries);
+        within = omega arith;
+        file = f.2 ∙ ap (λ text. Some (insert m c.args.log.now text)) (f.1.is_text ∙ sym (whole_front (text_of f.1.entries)));
+      });
+      closing = λ off. (driver_entry_line ending c.in-Ok.finished.charged, inl (ending, c.in-Ok.finished.charged, refl), c.tell_end.ensures.closing c.args.log.now off);
       others = others_of _ _ known small;
     }
+
+pub returns-in-Err-Memory : goal.returns-in-Err-Memory
+returns-in-Err-Memory g c = record {
+  ran = search rules;
+  unread = search rules;
+  refused = search rules;
+  unwritten = search rules;
+  unwritten_log = λ e none. let status = c.tell_memory.ensures.status in absurd (omega arith);
+  broke_off = λ _ m is. c.in-Err-Memory.ensures.broke_off m is;
+  closing = λ off. (read_line c.args.sys.now, inr (inl refl), off_at_once c.args.log.now _ _ _ c.tell_memory.ensures.front);
+  others = search rules;
+}
+
+pub returns-in-Err-Unread : goal.returns-in-Err-Unread
+returns-in-Err-Unread g c = record {
+  ran = search rules;
+  unread = search rules;
+  refused = search rules;
+  unwritten = search rules;
+  unwritten_log = λ e none. absurd (none (c.tell_unread.ensures.untold e));
+  broke_off = λ _ m is. c.in-Err-Unread.ensures.broke_off m is;
+  closing = λ off. (read_line c.args.sys.now, inr (inl refl), c.tell_unread.ensures.closing c.args.log.now off);
+  others = search rules;
+}
+
+pub returns-in-Err-Refused : goal.returns-in-Err-Refused
+returns-in-Err-Refused g c = record {
+  ran = search rules;
+  unread = search rules;
+  refused = search rules;
+  unwritten = search rules;
+  unwritten_log = λ e none. absurd (none (c.tell_refused.ensures.untold e));
+  broke_off = λ _ m is. c.in-Err-Refused.ensures.broke_off m is;
+  closing = λ off. (image_line c.in-Err-Refused.refusal, inr (inr (c.in-Err-Refused.refusal, refl)), c.tell_refused.ensures.closing c.args.log.now off);
+  others = search rules;
+}
+
+pub returns-in-Err-Unwritten : goal.returns-in-Err-Unwritten
+returns-in-Err-Unwritten g c = record {
+  ran = search rules;
+  unread = search rules;
+  refused = search rules;
+  unwritten = search rules;
+  unwritten_log = λ e none. c.tell_unwritten.ensures.told e none;
+  broke_off = λ _ m is. c.in-Err-Unwritten.ensures.broke_off m is;
+  closing = λ off. (read_line c.args.sys.now, inr (inl refl), c.tell_unwritten.ensures.closing _);
+  others = search rules;
+}

@@ -23,9 +23,14 @@ fn main(rt: HostRuntime) -> ExitCode {
 
 /// The program's arguments, without its name: none where the system gives none.
 fn words_of<R: Env + AllocGlobal>(rt: &R) -> Result<Vec<String>, OutOfMemory> {
-    match env::args(rt) {
-        Ok(words) => Ok(words.skip(1).collect(rt.alloc())?),
-        Err(error) if error.kind() == ErrorKind::OutOfMemory => Err(OutOfMemory),
-        Err(_) => Ok(Vec::new(rt.alloc())),
+    let args = match env::args(rt) {
+        Ok(args) => args,
+        Err(error) if error.kind() == ErrorKind::OutOfMemory => return Err(OutOfMemory),
+        Err(_) => return Ok(Vec::new(rt.alloc())),
+    };
+    let mut words = Vec::new(rt.alloc());
+    for word in args.skip(1) {
+        words.push(word)?;
     }
+    Ok(words)
 }

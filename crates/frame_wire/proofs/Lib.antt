@@ -1,0 +1,6 @@
+pub mod Numbers
+pub mod Headers
+pub mod Loop
+pub mod Fronts
+pub mod Files
+pub mod Returns

@@ -105,6 +105,7 @@ fn either_order(rt: HostRuntime) -> Result<(), Fail> {
         let frames = read_frames(rt.alloc(), file.as_slice())?;
         let mut seen = Vec::new(rt.alloc());
         for frame in &frames {
+            assert!(rt; frame.bytes.as_slice().iter().all(|byte| *byte == 7));
             seen.push((frame.stamp, frame.bytes.len()))?;
         }
         assert_eq!(rt;

@@ -1,5 +1,10 @@
 pub mod FaultPlan
 pub mod FileTable
 pub mod Files
+pub mod Layout
+pub mod LayoutFile
+pub mod LayoutReading
+pub mod LayoutText
 pub mod MemoryFiles
 pub mod MemorySink
+pub mod Text

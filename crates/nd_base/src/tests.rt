@@ -60,6 +60,20 @@ fn byte_strings(rt: HostRuntime) -> Result<(), Fail> {
 }
 
 #[test]
+fn wide_strings(rt: HostRuntime) -> Result<(), Fail> {
+    let mut wide = Wide::copy(rt.alloc(), &[0x41, 0x3a9])?;
+    wide.push(0xffff)?;
+    wide.extend_from_slice(&[0x42])?;
+    assert_eq!(rt; wide.as_slice(), [0x41, 0x3a9, 0xffff, 0x42].as_slice());
+    assert_eq!(rt; wide.len(), 4);
+    assert!(rt; !wide.is_empty());
+    assert!(rt; Wide::new(rt.alloc()).is_empty());
+    let copied = wide.copied(rt.alloc())?;
+    assert_eq!(rt; copied.as_slice(), [0x41, 0x3a9, 0xffff, 0x42].as_slice());
+    Ok(())
+}
+
+#[test]
 fn errors(rt: HostRuntime) -> Result<(), Fail> {
     assert_eq!(rt;
         IoFault::from(OutOfMemory::from(AllocError)),
@@ -131,5 +145,144 @@ fn sinks(rt: HostRuntime) -> Result<(), Fail> {
     assert_eq!(rt; write_two(&mut calm, b"ab", b""), Ok((2, 0)));
     assert_eq!(rt; calm.written(), b"ab".as_slice());
     pass(&OpenGate);
+    Ok(())
+}
+
+/// The usual offsets of all fields but the last.
+const MOST_LINES: &[u8] = b"\
+packet_physical_count = 0\n\
+packet_total_length = 4\n\
+packet_head = 8\n\
+packet_tail = 12\n\
+packet_pool = 16\n\
+packet_count = 20\n\
+packet_flags = 24\n\
+packet_valid_counts = 28\n\
+packet_ndis_flags = 29\n\
+packet_oob_offset = 30\n\
+packet_miniport_reserved = 32\n\
+oob_header_size = 24\n\
+oob_status = 36\n\
+buffer_next = 0\n\
+buffer_size = 4\n\
+buffer_flags = 6\n\
+buffer_mapped = 12\n\
+buffer_start = 16\n\
+buffer_count = 20\n\
+buffer_offset = 24\n\
+block_packet_indicate = 64\n\
+block_send_complete = 68\n\
+block_send_resources = 72\n\
+block_reset_complete = 76\n\
+block_status = 80\n\
+block_status_complete = 84\n\
+block_query_complete = 88\n\
+block_set_complete = 92\n\
+block_eth_indicate = 96\n\
+block_eth_complete = 100\n\
+";
+
+/// The fields with their usual offsets.
+const USUAL: [(Field, u32); 31] = [
+    (Field::PacketPhysicalCount, 0),
+    (Field::PacketTotalLength, 4),
+    (Field::PacketHead, 8),
+    (Field::PacketTail, 12),
+    (Field::PacketPool, 16),
+    (Field::PacketCount, 20),
+    (Field::PacketFlags, 24),
+    (Field::PacketValidCounts, 28),
+    (Field::PacketNdisFlags, 29),
+    (Field::PacketOobOffset, 30),
+    (Field::PacketMiniportReserved, 32),
+    (Field::OobHeaderSize, 24),
+    (Field::OobStatus, 36),
+    (Field::BufferNext, 0),
+    (Field::BufferSize, 4),
+    (Field::BufferFlags, 6),
+    (Field::BufferMapped, 12),
+    (Field::BufferStart, 16),
+    (Field::BufferCount, 20),
+    (Field::BufferOffset, 24),
+    (Field::BlockPacketIndicate, 64),
+    (Field::BlockSendComplete, 68),
+    (Field::BlockSendResources, 72),
+    (Field::BlockResetComplete, 76),
+    (Field::BlockStatus, 80),
+    (Field::BlockStatusComplete, 84),
+    (Field::BlockQueryComplete, 88),
+    (Field::BlockSetComplete, 92),
+    (Field::BlockEthIndicate, 96),
+    (Field::BlockEthComplete, 100),
+    (Field::BlockEthDb, 104),
+];
+
+#[test]
+fn layouts_are_read(rt: HostRuntime) -> Result<(), Fail> {
+    let mut text = Bytes::copy(rt.alloc(), MOST_LINES)?;
+    assert_eq!(rt;
+        Layout::read(text.as_slice()).err(),
+        Some(LayoutRefusal::Missing(Field::BlockEthDb))
+    );
+    text.extend_from_slice(b"# the last\r\n\tblock_eth_db\t= 104 \r\n")?;
+    let layout = Layout::read(text.as_slice())?;
+    let usual = Layout::usual();
+    for (field, offset) in USUAL {
+        assert_eq!(rt; layout.offset(field), offset);
+        assert_eq!(rt; usual.offset(field), offset);
+    }
+    Ok(())
+}
+
+fn refusal(text: &[u8]) -> Option<LayoutRefusal> {
+    Layout::read(text).err()
+}
+
+#[test]
+fn layouts_are_refused(rt: HostRuntime) -> Result<(), Fail> {
+    let unknown = refusal(b"# none\n\npacket_tall = 9\n");
+    assert_eq!(rt; unknown, Some(LayoutRefusal::UnknownName(3)));
+    let unknown = refusal(b"no_such = 99999999999");
+    assert_eq!(rt; unknown, Some(LayoutRefusal::UnknownName(1)));
+    let repeated = refusal(b"packet_head = 8\npacket_head = 8");
+    assert_eq!(rt; repeated, Some(LayoutRefusal::Repeated(2)));
+    let mut text = Bytes::copy(rt.alloc(), MOST_LINES)?;
+    text.extend_from_slice(b"block_eth_db = 103\n")?;
+    let shared = refusal(text.as_slice());
+    assert_eq!(rt;
+        shared,
+        Some(LayoutRefusal::Overlap(Field::BlockEthComplete, Field::BlockEthDb))
+    );
+    Ok(())
+}
+
+#[test]
+fn layout_lines_are_judged(rt: HostRuntime) -> Result<(), Fail> {
+    let line = Some(LayoutRefusal::Line(1));
+    assert_eq!(rt; refusal(b"oob_status = 37"), line);
+    assert_eq!(rt; refusal(b"packet_head = 08"), line);
+    assert_eq!(rt; refusal(b"no_such = 08"), line);
+    assert_eq!(rt; refusal(b"packet_head = 4294967304"), line);
+    assert_eq!(rt; refusal(b"packet_head = +8"), line);
+    assert_eq!(rt; refusal(b"packet_head 8"), line);
+    assert_eq!(rt; refusal(b"packet_head = 8 8"), line);
+    assert_eq!(rt; refusal(b" # no comment"), line);
+    assert_eq!(rt; refusal(b"packet_head = 8\r"), line);
+    let missing = Some(LayoutRefusal::Missing(Field::PacketPhysicalCount));
+    assert_eq!(rt; refusal(b"packet_head = 0"), missing);
+    assert_eq!(rt; refusal(b" \t\r\n# a comment\n"), missing);
+    Ok(())
+}
+
+#[test]
+fn layouts_have_a_longest_text(rt: HostRuntime) -> Result<(), Fail> {
+    let mut text = Bytes::new(rt.alloc());
+    for _ in 0..65_536 {
+        text.push(b'\n')?;
+    }
+    let missing = Some(LayoutRefusal::Missing(Field::PacketPhysicalCount));
+    assert_eq!(rt; refusal(text.as_slice()), missing);
+    text.push(b'\n')?;
+    assert_eq!(rt; refusal(text.as_slice()), Some(LayoutRefusal::TooLong));
     Ok(())
 }

@@ -1,9 +1,5 @@
 pub mod EndsLaws
-pub mod GuestMap
-pub mod Hex
+pub mod Judging
 pub mod Pieces
-pub mod PutWords
-pub mod Runs
-pub mod StartSpace
 pub mod Told
-pub mod Turns
+pub mod Utf16

@@ -5,9 +5,9 @@ use Rattle.std.proofs.Math.ListN.{get_or-map}
 use Rattle.std.proofs.lemmas.List.{length-map}
 use Rattle.std.specs.Prelude.{String}
 use Rattle.std.specs.Global.{Global}
-use Rattle.ndis_run.specs.Words.{IsRunZero}
-use Rattle.ndis_run.specs.declared.session.Ending.{Ending}
-use Rattle.ndis_run.specs.declared.session.Ending.TheVariants.{Left, Faulting, Spent}
+use Rattle.ndis_run.specs.Words.{IsRunZero, IsShowImage, IsShowInf}
+use Rattle.driver_entry.specs.declared.session.Ending.{Ending}
+use Rattle.driver_entry.specs.declared.session.Ending.TheVariants.{Left, Faulting, Spent}
 use Rattle.ndis_run.specs.Tool.{status_of, AddsFronts, BreaksOff}
 use Rattle.ndis_run.specs.Transfer.{AddsFront}
 use Rattle.ndis_run.specs.Printed.{write_line}
@@ -44,6 +44,19 @@ word_of_form words texts k word is inside at = ap string_bytes at ∙ sym (get_o
 pub named : (words : List (String Global)) (sys log : List ℕ) (first second : String Global) → IsRunZero (map string_bytes words) sys log → first ≡ get_or words 1 first → second ≡ get_or words 2 second
     → (string_bytes first ≡ sys) × (string_bytes second ≡ log)
 named words sys log first second form at_first at_second =
+    let three : length words ≡ 3 = length_of_form words _ form.form in
+    (word_of_form words _ 1 first form.form (omega arith) at_first, word_of_form words _ 2 second form.form (omega arith) at_second)
+
+-- the name that `show-image` was given is its second word
+pub named_alone : (words : List (String Global)) (sys : List ℕ) (name : String Global) → IsShowImage (map string_bytes words) sys → name ≡ get_or words 1 name → string_bytes name ≡ sys
+named_alone words sys name form at =
+    let two : length words ≡ 2 = length_of_form words _ form.form in
+    word_of_form words _ 1 name form.form (omega arith) at
+
+-- the names that `show-inf` was given are its second and third word
+pub named_pair : (words : List (String Global)) (inf id : List ℕ) (first second : String Global) → IsShowInf (map string_bytes words) inf id → first ≡ get_or words 1 first → second ≡ get_or words 2 second
+    → (string_bytes first ≡ inf) × (string_bytes second ≡ id)
+named_pair words inf id first second form at_first at_second =
     let three : length words ≡ 3 = length_of_form words _ form.form in
     (word_of_form words _ 1 first form.form (omega arith) at_first, word_of_form words _ 2 second form.form (omega arith) at_second)
 

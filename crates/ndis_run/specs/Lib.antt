@@ -1,8 +1,5 @@
-pub mod Entries
-pub mod Guest
 pub mod Printed
-pub mod Run
-pub mod Session
+pub mod Shown
 pub mod Tool
 pub mod Transfer
 pub mod Words

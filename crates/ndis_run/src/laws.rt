@@ -1,32 +1,26 @@
 //! Laws of the definitions that the top calls' clauses cite: each is the contract of a function
 //! that does nothing.
 
-ghost use Rattle.std.specs.Prelude.{◌≡◌, ℕ, ◌<◌, ◌++◌, ◌⊎◌, List, Option, Some, None};
+ghost use Rattle.std.specs.Prelude.{◌≡◌, ℕ, ◌<◌, ◌⊎◌, List, Option, Some, Ok};
 ghost use Rattle.nd_base.specs.Files.{Kept, bytes_at, Rose};
-ghost use Rattle.pe_image.specs.FirstForm.{refused};
-ghost use Rattle.ndis_run.specs.Run.{Inputs, Run};
+ghost use Rattle.pe_image.specs.Image.{ImageParts};
+ghost use Rattle.ndis_run.specs.Shown.{judged};
 ghost use Rattle.ndis_run.specs.Tool.{EndsZero};
 ghost use Rattle.ndis_run.specs.Words.{IsForm};
 
-use crate::entries::Entry;
 use crate::words::Command;
-
-/// Every front of a run is a run.
-pub fn fronts_of_runs_are_runs()
-    ensures { (c : Inputs) (log more : List Entry) → Run c (log ++ more) → Run c log }
-{}
 
 /// No words have two forms.
 pub fn words_have_one_form()
     ensures { (words : List (List ℕ)) (one other : Command) → IsForm one words → IsForm other words → one ≡ other }
 {}
 
-/// Where the image is not refused and no count of faults rose, `run0` ends with 0 or 1, or for want
+/// Where the image is not refused, nor any of its imports, and no count of faults rose, `run0` ends with 0 or 1, or for want
 /// of memory.
 pub fn run_zero_is_complete()
-    ensures { (sys log : List ℕ) (status : ℕ) (m : Kept) (kept : Option Kept) (reads reads' writes writes' : ℕ) (before after : Option (List ℕ)) (faults faults' : ℕ)
+    ensures { (sys log : List ℕ) (status : ℕ) (m : Kept) (kept : Option Kept) (reads reads' writes writes' : ℕ) (before after : Option (List ℕ)) (faults faults' : ℕ) (image : ImageParts)
         → EndsZero sys log status (Some m) kept reads reads' writes writes' before after faults faults'
-        → refused (bytes_at m sys) ≡ None
+        → judged (bytes_at m sys) ≡ Ok image
         → (Rose reads reads' → ⊥) → (Rose writes writes' → ⊥) → (Rose faults faults' → ⊥)
         → (status < 2) ⊎ (status ≡ 10) }
 {}

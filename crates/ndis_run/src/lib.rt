@@ -1,13 +1,12 @@
 //! The top calls: the commands, run over files and a sink.
 #![tactic(auto)]
 
-pub mod entries;
-pub mod guest;
 pub mod laws;
 pub mod ndis;
+pub mod printing;
 pub mod real_devices;
 pub mod run_zero;
-pub mod session;
+pub mod show;
 pub mod tool;
 pub mod transfer;
 pub mod words;

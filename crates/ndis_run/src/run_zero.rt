@@ -1,34 +1,37 @@
 //! `run0 SYS LOG`: DriverEntry of an image alone.
 
-ghost use Rattle.std.specs.Prelude.{◌≡◌, ◌≢◌, ℕ, ◌<◌, ◌⊎◌, Some, None, IfOk, IfErr, OnErr, IsTrue, IsErrOf, string_bytes};
+ghost use Rattle.std.specs.Prelude.{◌≡◌, [], ◌≢◌, ℕ, ◌<◌, ◌⊎◌, Some, None, Ok, Err, IfOk, IfErr, OnErr, IsTrue, List, string_bytes};
 ghost use Rattle.std.specs.FinMap.{insert};
 ghost use Rattle.nd_base.specs.Files.{Kept, bytes_at, Rose, OnlyReads, OnlyWrites};
-ghost use Rattle.pe_image.specs.FirstForm.{IsFirstForm, parts_of, refused};
+ghost use Rattle.pe_image.specs.Image.{ImageParts};
+ghost use Rattle.printed_lines.specs.ImageLines.{image_line};
 ghost use Rattle.ndis_run.specs.Printed.{driver_entry_line, ending_text};
-ghost use Rattle.ndis_run.specs.Run.{Inputs};
+ghost use Rattle.driver_entry.specs.Run.{Inputs};
 ghost use Rattle.ndis_run.specs.Transfer.{WritesFront};
-ghost use Rattle.ndis_run.specs.Tool.{HasRun, LeavesFront, usual};
+ghost use Rattle.ndis_run.specs.Shown.{served, judged};
+ghost use Rattle.ndis_run.specs.Tool.{HasRun, IsRefusalLine, LeavesFront, usual};
 
-use crate::entries::text_of;
-use crate::session::{Ending, Session};
 use crate::transfer::{ReadFailure, read_file, write_file};
-use nd_base::{Files, IoFault, OutOfMemory};
+use driver_entry::{Ending, Session, text_of};
+use nd_base::{Bytes, Files, IoFault, OutOfMemory};
 use pe_image::{Image, PeRefusal};
+use printed_lines::{image_line, unknown_import_line};
 use std::alloc::{AllocError, Global};
 
 /// The most bytes that an image's file may have.
-const IMAGE_LIMIT: usize = 0x40_0000;
+pub const IMAGE_LIMIT: usize = 0x40_0000;
 
 /// How many instructions DriverEntry may take.
 const BUDGET: u32 = 4_000_000;
 
 /// Why `run0` does not come to an end.
-#[derive(Clone, Copy, Debug, PartialEq, Eq)]
+#[derive(Drop)]
 pub enum Failure {
     Memory,
     /// A size or read of the image's file failed.
     Unread,
-    Refused(PeRefusal),
+    /// The image is refused, with this line.
+    Refused(Bytes),
     /// A create or append of the log's file failed.
     Unwritten,
 }
@@ -44,27 +47,60 @@ impl From<OutOfMemory> for Failure {
     }
 }
 
+/// The refusal of an image, with its line.
+fn refused(alloc: Global, refusal: PeRefusal) -> Failure
+    ensures line { (line : List ℕ) → result ≡ Failure.Refused line → line ≡ image_line refusal }
+    ensures others { (result ≡ Failure.Unread → ⊥) × (result ≡ Failure.Unwritten → ⊥) }
+{
+    match image_line(alloc, refusal) {
+        Ok(line) => Failure::Refused(line),
+        Err(_) => Failure::Memory,
+    }
+}
+
+/// An image whose imports are all served, of which there are none yet.
+fn served(alloc: Global, image: Image) -> Result<Image, Failure>
+    ensures ok { IfOk result (λ i. (served image image.imports ≡ Ok i) × (i.imports ≡ [])) }
+    ensures refused { IfErr result (λ e. (line : List ℕ) → e ≡ Failure.Refused line → served image image.imports ≡ Err line) }
+    ensures others { IfErr result (λ e. (e ≡ Failure.Unread → ⊥) × (e ≡ Failure.Unwritten → ⊥)) }
+{
+    match image.imports().first() {
+        None => Ok(image),
+        Some(import) => Err(Failure::Refused(unknown_import_line(alloc, import.name.as_slice())?)),
+    }
+}
+
+/// The image of a file's bytes.
+#[tactic(auto, unfolding(crate::specs::Shown::judged))]
+fn judged(alloc: Global, bytes: &[u8]) -> Result<Image, Failure>
+    ensures ok { IfOk result (λ image. (judged bytes.now ≡ Ok image) × (image.imports ≡ [])) }
+    ensures refused { IfErr result (λ e. (line : List ℕ) → e ≡ Failure.Refused line → judged bytes.now ≡ Err line) }
+    ensures others { IfErr result (λ e. (e ≡ Failure.Unread → ⊥) × (e ≡ Failure.Unwritten → ⊥)) }
+{
+    match Image::read(alloc, bytes) {
+        Ok(image) => served(alloc, image),
+        Err(PeRefusal::OutOfMemory) => Err(Failure::Memory),
+        Err(refusal) => Err(refused(alloc, refusal)),
+    }
+}
+
 /// Reads an image's file, and judges it.
+#[tactic(auto, using(crate::proofs::Judging::judged_too_large))]
 pub fn read_image<F: Files>(alloc: Global, files: &mut F, sys: &str) -> Result<Image, Failure>
     requires { IsTrue (F.may_read files.old sys.now) }
-    ensures ok { IfOk result (λ image. (m : Kept) → F.kept files.old ≡ Some m
-        → IsFirstForm (bytes_at m sys.now) × (image ≡ parts_of (bytes_at m sys.now))) }
-    ensures refused { IfErr result (λ e. (r : PeRefusal) → e ≡ Failure.Refused r → (m : Kept) → F.kept files.old ≡ Some m
-        → refused (bytes_at m sys.now) ≡ Some r) }
-    ensures not_written { IsErrOf result Failure.Unwritten → ⊥ }
-    ensures cause { IsErrOf result Failure.Unread → Rose (F.read_faults files.old) (F.read_faults files.new) }
+    ensures ok { IfOk result (λ image. (m : Kept) → F.kept files.old ≡ Some m → judged (bytes_at m sys.now) ≡ Ok image) }
+    ensures no_imports { IfOk result (λ image. image.imports ≡ []) }
+    ensures refused { IfErr result (λ e. (line : List ℕ) → e ≡ Failure.Refused line → IsRefusalLine line
+        × ((m : Kept) → F.kept files.old ≡ Some m → judged (bytes_at m sys.now) ≡ Err line)) }
+    ensures not_written { IfErr result (λ e. e ≡ Failure.Unwritten → ⊥) }
+    ensures cause { IfErr result (λ e. e ≡ Failure.Unread → Rose (F.read_faults files.old) (F.read_faults files.new)) }
     ensures only { OnlyReads F.kept F.read_faults F.write_faults F.may_read F.may_write files.old files.new }
 {
-    let bytes = match read_file(alloc, files, sys, IMAGE_LIMIT) {
-        Ok(bytes) => bytes,
-        Err(ReadFailure::Memory) => return Err(Failure::Memory),
-        Err(ReadFailure::Failed) => return Err(Failure::Unread),
-        Err(ReadFailure::TooLong) => return Err(Failure::Refused(PeRefusal::Unready)),
-    };
-    match Image::read(alloc, &bytes) {
-        Ok(image) => Ok(image),
-        Err(PeRefusal::OutOfMemory) => Err(Failure::Memory),
-        Err(refusal) => Err(Failure::Refused(refusal)),
+    match read_file(alloc, files, sys, IMAGE_LIMIT) {
+        Ok(bytes) => judged(alloc, &bytes),
+        Err(ReadFailure::Memory) => Err(Failure::Memory),
+        Err(ReadFailure::Failed) => Err(Failure::Unread),
+        Err(ReadFailure::TooLong) => Err(refused(alloc, PeRefusal::TooLarge)),
     }
 }
 
@@ -81,7 +117,8 @@ pub struct Finished {
 /// Runs DriverEntry of an image.
 pub fn run_image(alloc: Global, image: &Image) -> Result<Finished, OutOfMemory>
     ghost inputs: { Inputs }
-    requires { inputs ≡ usual image.now }
+    requires given { inputs ≡ usual image.now }
+    requires no_imports { image.now.imports ≡ [] }
     ensures { IfOk result (λ finished. HasRun image.now finished.ending finished.charged (string_bytes finished.text)) }
 {
     let mut session = Session::enter(alloc, image, BUDGET)?;
@@ -104,13 +141,13 @@ pub fn log_run<F: Files>(
     requires readable { IsTrue (F.may_read files.old sys.now) }
     requires writable { IsTrue (F.may_write files.old log.now) }
     ensures ran { IfOk result (λ finished. (m : Kept) → F.kept files.old ≡ Some m
-        → IsFirstForm (bytes_at m sys.now)
-        × HasRun (parts_of (bytes_at m sys.now)) finished.ending finished.charged (string_bytes finished.text)
+        → (image : ImageParts) × (judged (bytes_at m sys.now) ≡ Ok image)
+        × HasRun image finished.ending finished.charged (string_bytes finished.text)
         × (F.kept files.new ≡ Some (insert m log.now (string_bytes finished.text)))) }
-    ensures refused { IfErr result (λ e. (r : PeRefusal) → e ≡ Failure.Refused r → (F.kept files.new ≡ F.kept files.old)
-        × ((m : Kept) → F.kept files.old ≡ Some m → refused (bytes_at m sys.now) ≡ Some r)) }
-    ensures unread { IsErrOf result Failure.Unread → Rose (F.read_faults files.old) (F.read_faults files.new) × (F.kept files.new ≡ F.kept files.old) }
-    ensures unwritten { IsErrOf result Failure.Unwritten → Rose (F.write_faults files.old) (F.write_faults files.new) }
+    ensures refused { IfErr result (λ e. (line : List ℕ) → e ≡ Failure.Refused line → (F.kept files.new ≡ F.kept files.old)
+        × IsRefusalLine line × ((m : Kept) → F.kept files.old ≡ Some m → judged (bytes_at m sys.now) ≡ Err line)) }
+    ensures unread { IfErr result (λ e. e ≡ Failure.Unread → Rose (F.read_faults files.old) (F.read_faults files.new) × (F.kept files.new ≡ F.kept files.old)) }
+    ensures unwritten { IfErr result (λ e. e ≡ Failure.Unwritten → Rose (F.write_faults files.old) (F.write_faults files.new)) }
     ensures broke_off { OnErr result ((m : Kept) → F.kept files.old ≡ Some m → LeavesFront m sys.now log.now (F.kept files.new)) }
 {
     let image = match read_image(alloc, files, sys) {

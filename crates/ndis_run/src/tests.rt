@@ -197,7 +197,12 @@ fn wants_a_form_of_words(rt: HostRuntime) -> Result<(), Fail> {
     no_form(&rt, alloc, &["run0"])?;
     no_form(&rt, alloc, &["run0", "a"])?;
     no_form(&rt, alloc, &["run0", "a", "b", "c"])?;
-    no_form(&rt, alloc, &["run", "a", "b", "c"])
+    no_form(&rt, alloc, &["run", "a", "b", "c"])?;
+    no_form(&rt, alloc, &["show-image"])?;
+    no_form(&rt, alloc, &["show-image", "--a"])?;
+    no_form(&rt, alloc, &["show-image", "a", "b"])?;
+    no_form(&rt, alloc, &["show-inf", "a"])?;
+    no_form(&rt, alloc, &["show-inf", "a", "--b"])
 }
 
 #[test]
@@ -238,4 +243,139 @@ fn ends_where_nothing_is_printed(rt: HostRuntime) -> Result<(), Fail> {
     assert_eq!(rt; files.get("run.log").ok_or("no log")?.len(), 68);
     assert_eq!(rt; out.written(), b"write -\n".as_slice());
     Ok(())
+}
+
+/// These words end with this status, and print this text.
+fn shows(
+    rt: &impl Abort,
+    alloc: Global,
+    files: &mut MemFiles,
+    row: &[&str],
+    status: u8,
+    text: &[u8],
+) -> Result<(), Fail> {
+    let mut out = MemSink::new(alloc);
+    let mut words = Vec::new(alloc);
+    for word in row {
+        words.push(String::from_str(alloc, word)?)?;
+    }
+    assert_eq!(rt; tool_main(alloc, &words, files, &mut out), status);
+    assert_eq!(rt; out.written(), text);
+    Ok(())
+}
+
+#[test]
+fn shows_an_image(rt: HostRuntime) -> Result<(), Fail> {
+    let alloc = rt.alloc();
+    let mut files = files_with(alloc, &RETURNS)?;
+    let text = b"image base 80100000 entry 00001000 size 00002000\n\
+section .text 00001000 0000000b 0000000b r-x\n";
+    let row = ["show-image", "driver.sys"];
+    shows(&rt, alloc, &mut files, &row, 0, text)?;
+    shows(
+        &rt,
+        alloc,
+        &mut files,
+        &["show-image", "other.sys"],
+        3,
+        b"read other.sys\n",
+    )
+}
+
+/// Puts a piece in place of the bytes from an offset on.
+fn overwrite(bytes: &mut Vec<u8>, at: usize, piece: &[u8]) -> Result<(), Fail> {
+    let end = at.checked_add(piece.len()).ok_or("no end")?;
+    if end > bytes.len() {
+        return Err(Fail::from("no room"));
+    }
+    bytes[at..end].copy_from_slice(piece);
+    Ok(())
+}
+
+/// The stored driver with pieces in place of its bytes from these offsets on.
+fn changed(alloc: Global, changes: &[(usize, &[u8])]) -> Result<MemFiles, Fail> {
+    let mut bytes = driver(alloc, &RETURNS)?;
+    for (at, piece) in changes {
+        overwrite(&mut bytes, *at, piece)?;
+    }
+    let mut files = MemFiles::new(alloc);
+    files.put("driver.sys", bytes.as_slice())?;
+    Ok(files)
+}
+
+#[test]
+fn shows_why_an_image_is_refused(rt: HostRuntime) -> Result<(), Fail> {
+    let alloc = rt.alloc();
+    let row = ["show-image", "driver.sys"];
+    // ImageBase is 0x00010000, and Characteristics has IMAGE_FILE_RELOCS_STRIPPED.
+    let mut files = changed(alloc, &[(88 + 28, &[0, 0, 1, 0]), (64 + 22, &[1, 0])])?;
+    let text = b"image relocs-stripped\n";
+    shows(&rt, alloc, &mut files, &row, 5, text)
+}
+
+/// The stored driver, which imports `NdisMFooBar` from ndis.sys: its section of 0x80 bytes has the
+/// import directory at RVA 0x1020.
+fn importing(alloc: Global) -> Result<MemFiles, Fail> {
+    changed(
+        alloc,
+        &[
+            (312 + 8, &[0x80]),
+            (88 + 96 + 8, &[0x20, 0x10]),
+            (512 + 0x20, &[0x48, 0x10]),
+            (512 + 0x2C, &[0x60, 0x10, 0, 0, 0x58, 0x10]),
+            (512 + 0x48, &[0x6A, 0x10]),
+            (512 + 0x60, b"ndis.sys"),
+            (512 + 0x6C, b"NdisMFooBar"),
+        ],
+    )
+}
+
+#[test]
+fn refuses_an_unknown_import(rt: HostRuntime) -> Result<(), Fail> {
+    let alloc = rt.alloc();
+    let mut files = importing(alloc)?;
+    let row = ["run0", "driver.sys", "run.log"];
+    let text = b"image unknown-import NdisMFooBar\n";
+    shows(&rt, alloc, &mut files, &row, 5, text)?;
+    assert!(rt; files.get("run.log").is_none());
+    let text = b"image base 80100000 entry 00001000 size 00002000\n\
+section .text 00001000 00000080 00000080 r-x\n\
+import ndis.sys NdisMFooBar 00001058\n";
+    let row = ["show-image", "driver.sys"];
+    shows(&rt, alloc, &mut files, &row, 0, text)
+}
+
+/// An INF file of one model.
+const INF: &[u8] = b"[Version]
+Signature=\"$Windows NT$\"
+[Manufacturer]
+%M%=Models
+[Models]
+\"NE2000\" = Ne.Inst, *PNP80D6
+[Ne.Inst]
+AddReg=Ne.Reg
+[Ne.Reg]
+HKR,,BusType,0,\"1\"
+HKR,Ndi\\params\\IoBaseAddress,default,0,\"300\"
+HKR,,Speed,0x00010001,10
+[Strings]
+M=\"Acme\"
+";
+
+#[test]
+fn shows_parameters(rt: HostRuntime) -> Result<(), Fail> {
+    let alloc = rt.alloc();
+    let mut files = MemFiles::new(alloc);
+    files.put("driver.inf", INF)?;
+    files.put("empty.inf", b"")?;
+    let text =
+        b"param BusType string 1\nparam Speed dword 0000000a\nparam IoBaseAddress string 300\n";
+    let row = ["show-inf", "driver.inf", "*PNP80D6"];
+    shows(&rt, alloc, &mut files, &row, 0, text)?;
+    let row = ["show-inf", "driver.inf", "*NONE"];
+    shows(&rt, alloc, &mut files, &row, 6, b"inf no-model\n")?;
+    let row = ["show-inf", "empty.inf", "*PNP80D6"];
+    shows(&rt, alloc, &mut files, &row, 6, b"inf no-version\n")?;
+    let row = ["show-inf", "other.inf", "*PNP80D6"];
+    shows(&rt, alloc, &mut files, &row, 3, b"read other.inf\n")
 }

@@ -1,4 +1,14 @@
-pub mod Form
+pub mod Contents
+pub mod Fronts
+pub mod Importing
+pub mod Judged
+pub mod Keeping
+pub mod LaidOut
 pub mod Laws
+pub mod Loops
 pub mod Mapping
 pub mod Parts
+pub mod Relocating
+pub mod Spelled
+pub mod Table
+pub mod Whole

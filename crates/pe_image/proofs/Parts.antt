@@ -1,17 +1,16 @@
 -- The parts of an image as lists.
-use Rattle.std.proofs.Common.{◌≡◌, ℕ, suc, zero, ◌+◌, ◌<◌, ◌≤◌, List, [], ◌∷◌, length, get_or, take, drop, map, None, Some, Option, inl, inr, refl, sym, ap, ◌∙◌, subst, arith, All, Vec, Global}
+use Rattle.std.proofs.Common.{◌≡◌, ℕ, suc, zero, ◌+◌, ◌<◌, ◌≤◌, List, [], ◌∷◌, length, get_or, map, None, Some, Option, inl, inr, refl, sym, ap, ◌∙◌, subst, arith, All, Vec, Global}
 use Rattle.std.proofs.lemmas.List.{length-map, get_or-map}
-use Rattle.std.proofs.Math.ListN.{drop_of_length-le}
 use Rattle.std.proofs.lemmas.Bool.{cases_lt}
 use Rattle.std.proofs.lemmas.List.Elements.{All-tail}
 use Rattle.nd_mem.specs.declared.Rights.{Rights}
 use Rattle.nd_mem.specs.Cell.{Cell}
 use Rattle.nd_mem.specs.Space.{Cells, either_of, region_refusal}
 use Rattle.pe_image.specs.declared.headers.Section.{Section}
-use Rattle.pe_image.specs.Image.{SectionPart, ImageParts, section_parts, range_cell, section_cell, sections_cell, sections_refusal, image_cell, read_only, map_refusal, IsSectionLaidOut, sections_of}
+use Rattle.pe_image.specs.Image.{SectionPart, ImageParts, section_parts, range_cell, section_cell, sections_cell, sections_refusal, read_only, IsSectionLaidOut, sections_of}
 use Rattle.pe_image.specs.declared.image.Image.TheInside.{Inside}
 use Rattle.pe_image.specs.Inside.{parts_inside, IsKept}
-use Rattle.pe_image.proofs.Mapping.{either_assoc, either_none_right, either_none, free_at, region_refusal-same, range_cell-out}
+use Rattle.pe_image.proofs.Mapping.{either_none_right, either_none, free_at, region_refusal-same, range_cell-out}
 
 pub sections-section_parts : (sections : List Section) (contents : List (List ℕ)) → length contents ≡ length sections → map (λ part. part.section) (section_parts sections contents) ≡ sections
 sections-section_parts [] contents e = refl
@@ -30,7 +29,7 @@ get_or-section_parts (s ∷ sections) (b ∷ contents) zero section bytes d e le
 get_or-section_parts (s ∷ sections) (b ∷ contents) (suc k) section bytes d e less = get_or-section_parts sections contents k section bytes d (omega arith) (omega arith)
 
 -- the part at a place, by the section and the bytes there
-part_at : (sections : List Section) (contents : List (List ℕ)) (k : ℕ) (section other : Section) (bytes : List ℕ) (d : SectionPart) → length contents ≡ length sections → k < length sections → section ≡ get_or sections k other → bytes ≡ get_or contents k bytes → get_or (section_parts sections contents) k d ≡ record { section = section; bytes = bytes }
+pub part_at : (sections : List Section) (contents : List (List ℕ)) (k : ℕ) (section other : Section) (bytes : List ℕ) (d : SectionPart) → length contents ≡ length sections → k < length sections → section ≡ get_or sections k other → bytes ≡ get_or contents k bytes → get_or (section_parts sections contents) k d ≡ record { section = section; bytes = bytes }
 part_at sections contents k section other bytes d many less is are =
     get_or-section_parts sections contents k other bytes d many less ∙ (λ i. record { section = sym is i; bytes = sym are i })
 
@@ -39,29 +38,6 @@ laid_out_at image sections contents k section other bytes many less is are all =
     let part : SectionPart = record { section = section; bytes = bytes } in
     subst (IsSectionLaidOut image) (part_at sections contents k section other bytes part many less is are) (all k part (rw (length-section_parts sections contents many) less))
 
--- one section more
-pub sections_cell-take : (base a : ℕ) (parts : List SectionPart) (k : ℕ) (d : SectionPart) → k < length parts → sections_cell base (take (k + 1) parts) a ≡ either_of (sections_cell base (take k parts) a) (section_cell base (get_or parts k d) a)
-sections_cell-take base a [] k d less = absurd (omega arith)
-sections_cell-take base a (part ∷ parts) zero d less = either_none_right (section_cell base part a)
-sections_cell-take base a (part ∷ parts) (suc k) d less =
-    let next : suc k + 1 ≡ suc (k + 1) = omega arith in
-    rw next
-    (ap (either_of (section_cell base part a)) (sections_cell-take base a parts k d (omega arith))
-    ∙ sym (either_assoc (section_cell base part a) (sections_cell base (take k parts) a) (section_cell base (get_or parts k d) a)))
-
-pub sections_more : (old mid new : Cells) (base : ℕ) (sections : List Section) (contents : List (List ℕ)) (k : ℕ) (section other : Section) (bytes : List ℕ) → length contents ≡ length sections → k < length sections → section ≡ get_or sections k other → bytes ≡ get_or contents k bytes
-    → ((a : ℕ) → mid a ≡ either_of (old a) (sections_cell base (take k (section_parts sections contents)) a))
-    → ((a : ℕ) → new a ≡ either_of (mid a) (range_cell (base + section.rva) section.span bytes section.rights a))
-    → (a : ℕ) → new a ≡ either_of (old a) (sections_cell base (take (k + 1) (section_parts sections contents)) a)
-sections_more old mid new base sections contents k section other bytes many less is are before added a =
-    let part : SectionPart = record { section = section; bytes = bytes } in
-    let parts = section_parts sections contents in
-    let here : section_cell base (get_or parts k part) a ≡ section_cell base part a = ap (λ p. section_cell base p a) (part_at sections contents k section other bytes part many less is are) in
-    added a
-    ∙ ap (λ o. either_of o (section_cell base part a)) (before a)
-    ∙ either_assoc (old a) (sections_cell base (take k parts) a) (section_cell base part a)
-    ∙ ap (either_of (old a)) (ap (either_of (sections_cell base (take k parts) a)) (sym here) ∙ sym (sections_cell-take base a parts k part (rw (length-section_parts sections contents many) less)))
-
 -- as an image keeps them
 pub as_many : (image : Inside) → IsKept image → length (map (λ b. b.items) image.contents.items) ≡ length image.sections.items
 as_many image kept = length-map image.contents.items (λ b. b.items) ∙ kept.raw_parts
@@ -69,24 +45,17 @@ as_many image kept = length-map image.contents.items (λ b. b.items) ∙ kept.ra
 pub sections_are : (image : Inside) → IsKept image → sections_of (parts_inside image) ≡ image.sections.items
 sections_are image kept = sections-section_parts image.sections.items (map (λ b. b.items) image.contents.items) (as_many image kept)
 
-pub one_section : (image : Inside) → IsKept image → length image.sections.items ≡ 1
-one_section image kept = sym (length-section_parts image.sections.items (map (λ b. b.items) image.contents.items) (as_many image kept)) ∙ kept.laid_out.one_section
-
--- no section is left behind the last
-pub none_left : (cells : Cells) (base : ℕ) (sections : List Section) (k : ℕ) → length sections ≤ k → sections_refusal cells base (drop k sections) ≡ None
-none_left cells base sections k past = ap (sections_refusal cells base) (drop_of_length-le sections past)
-
 -- the bytes at a place
 pub bytes_at : (contents : List (Vec ℕ Global)) (k : ℕ) (kept : Vec ℕ Global) (bytes : List ℕ) → k < length contents → kept ≡ get_or contents k kept → bytes ≡ kept.items → bytes ≡ get_or (map (λ b. b.items) contents) k bytes
 bytes_at contents k kept bytes less is are = are ∙ ap (λ (b : Vec ℕ Global). b.items) is ∙ sym (get_or-map (λ b. b.items) contents k kept bytes less)
 
 -- ---- a whole image
-either_exchange : (o c : Option Cell) → ((cell : Cell) → c ≡ Some cell → o ≡ None) → either_of o c ≡ either_of c o
+pub either_exchange : (o c : Option Cell) → ((cell : Cell) → c ≡ Some cell → o ≡ None) → either_of o c ≡ either_of c o
 either_exchange None c apart = sym (either_none_right c)
 either_exchange (Some found) None apart = refl
 either_exchange (Some found) (Some cell) apart = absurd (let e : Some found ≡ None = apart cell refl in cc)
 
-free_in_range : (cells : Cells) (at n : ℕ) (bytes : List ℕ) (rights : Rights) (x : ℕ) (cell : Cell) → region_refusal cells at n ≡ None → range_cell at n bytes rights x ≡ Some cell → cells x ≡ None
+pub free_in_range : (cells : Cells) (at n : ℕ) (bytes : List ℕ) (rights : Rights) (x : ℕ) (cell : Cell) → region_refusal cells at n ≡ None → range_cell at n bytes rights x ≡ Some cell → cells x ≡ None
 free_in_range cells at n bytes rights x cell free is =
     let outside : (at ≤ x → at + n ≤ x) → cells x ≡ None = λ out. absurd (let none : range_cell at n bytes rights x ≡ None = range_cell-out at n bytes rights x out in cc) in
     elim (cases_lt x at) [
@@ -94,11 +63,11 @@ free_in_range cells at n bytes rights x cell free is =
       | inr low ↦ elim (cases_lt x (at + n)) [ inl within ↦ free_at cells at n x free low within | inr high ↦ outside (λ _. high) ]
     ]
 
-free_in_either : (o c : Option Cell) (cell : Cell) (P : Type 0) → (o ≡ Some cell → P) → (c ≡ Some cell → P) → either_of o c ≡ Some cell → P
+pub free_in_either : (o c : Option Cell) (cell : Cell) (P : Type 0) → (o ≡ Some cell → P) → (c ≡ Some cell → P) → either_of o c ≡ Some cell → P
 free_in_either None c cell P first second is = second is
 free_in_either (Some found) c cell P first second is = first is
 
-free_in_sections : (cells : Cells) (base : ℕ) (parts : List SectionPart) (x : ℕ) (cell : Cell) → sections_refusal cells base (map (λ part. part.section) parts) ≡ None → sections_cell base parts x ≡ Some cell → cells x ≡ None
+pub free_in_sections : (cells : Cells) (base : ℕ) (parts : List SectionPart) (x : ℕ) (cell : Cell) → sections_refusal cells base (map (λ part. part.section) parts) ≡ None → sections_cell base parts x ≡ Some cell → cells x ≡ None
 free_in_sections cells base [] x cell free is = absurd (cc)
 free_in_sections cells base (part ∷ parts) x cell free is =
     let both = either_none _ _ free in
@@ -106,15 +75,6 @@ free_in_sections cells base (part ∷ parts) x cell free is =
     (free_in_range cells (base + part.section.rva) part.section.span part.bytes part.section.rights x cell both.0)
     (free_in_sections cells base parts x cell both.1)
     is
-
--- an image that can be mapped is mapped where nothing is
-pub image_exchange : (cells : Cells) (base : ℕ) (image : ImageParts) (x : ℕ) → map_refusal cells base image ≡ None → either_of (cells x) (image_cell image base x) ≡ either_of (image_cell image base x) (cells x)
-image_exchange cells base image x free =
-    let both = either_none _ _ free in
-    either_exchange (cells x) (image_cell image base x)
-    (λ cell. free_in_either (range_cell base image.header_size image.headers read_only x) (sections_cell base image.sections x) cell (cells x ≡ None)
-    (free_in_range cells base image.header_size image.headers read_only x cell both.0)
-    (free_in_sections cells base image.sections x cell both.1))
 
 -- the headers leave the sections' ranges free
 pub still_free : (old new : Cells) (base : ℕ) (image : ImageParts) (parts : List SectionPart) → All (IsSectionLaidOut image) parts → ((x : ℕ) → new x ≡ either_of (old x) (range_cell base image.header_size image.headers read_only x)) → sections_refusal old base (map (λ part. part.section) parts) ≡ None → sections_refusal new base (map (λ part. part.section) parts) ≡ None
@@ -127,14 +87,3 @@ still_free old new base image (part ∷ parts) laid added free =
     let behind : image.header_size ≤ part.section.rva = here.behind_headers (omega arith) in
     added x ∙ ap (either_of (old x)) (range_cell-out base image.header_size image.headers read_only x (λ _. omega arith)) ∙ either_none_right (old x)) in
     rw (same, both.0) (still_free old new base image parts (All-tail (IsSectionLaidOut image) part parts laid) added both.1)
-
--- headers and then sections are the image
-pub image_added : (old mid new : Cells) (base : ℕ) (image : ImageParts) → map_refusal old base image ≡ None
-    → ((x : ℕ) → mid x ≡ either_of (old x) (range_cell base image.header_size image.headers read_only x))
-    → ((x : ℕ) → new x ≡ either_of (mid x) (sections_cell base image.sections x))
-    → (x : ℕ) → new x ≡ either_of (image_cell image base x) (old x)
-image_added old mid new base image free headers sections x =
-    sections x
-    ∙ ap (λ o. either_of o (sections_cell base image.sections x)) (headers x)
-    ∙ either_assoc (old x) (range_cell base image.header_size image.headers read_only x) (sections_cell base image.sections x)
-    ∙ image_exchange old base image x free

@@ -1,9 +1,10 @@
 -- The headers of a PE32 file, as the Microsoft PE/COFF specification lays them out ("COFF File Header", "Optional Header", "Section Table").
 -- A file is the list of its bytes, an offset counts bytes from its start, and numbers are little-endian.
-use Rattle.std.specs.Prelude.{ℕ, ◌+◌, ◌*◌, not, ◌&&◌, ◌==◌, nat_lt, nat_le, if◌then◌else◌, List, drop, take, min, bit_and}
+use Rattle.std.specs.Prelude.{ℕ, ◌+◌, ◌*◌, not, ◌&&◌, ◌==◌, Bool, nat_lt, nat_le, if◌then◌else◌, List, drop, take, min, bit_and}
 use Rattle.byteorder.specs.Endian.{little_number}
 use Rattle.nd_mem.specs.declared.Rights.{Rights}
 use Rattle.pe_image.specs.declared.headers.FileHeader.{FileHeader}
+use Rattle.pe_image.specs.declared.headers.Directory.{Directory}
 use Rattle.pe_image.specs.declared.headers.OptionalHeader.{OptionalHeader}
 use Rattle.pe_image.specs.declared.headers.SectionHeader.{SectionHeader}
 use Rattle.pe_image.specs.declared.headers.Section.{Section}
@@ -21,15 +22,22 @@ file_header bytes at = record {
   machine = u16_at bytes (at + 4);
   section_count = u16_at bytes (at + 6);
   optional_size = u16_at bytes (at + 20);
+  characteristics = u16_at bytes (at + 22);
 }
 
--- the RVA of a data directory (8 bytes each from offset 96 on, the RVA first), and 0 where NumberOfRvaAndSizes or
--- SizeOfOptionalHeader leaves it out
-abbrev pub directory_rva : List ℕ → (at optional_size index : ℕ) → ℕ
-directory_rva bytes at optional_size index =
-    if nat_lt index (u32_at bytes (at + 92)) && nat_le (96 + 8 * index + 8) optional_size then u32_at bytes (at + 96 + 8 * index) else 0
+-- whether there is a data directory of this number (8 bytes each from offset 96 on): NumberOfRvaAndSizes and SizeOfOptionalHeader
+-- may leave it out
+abbrev pub has_directory : List ℕ → (at optional_size index : ℕ) → Bool
+has_directory bytes at optional_size index = nat_lt index (u32_at bytes (at + 92)) && nat_le (96 + 8 * index + 8) optional_size
 
--- the fields of the optional header that are asked for; the Import Table is directory 1, and the Base Relocation Table directory 5
+-- its RVA and its size; one that is left out has the RVA 0
+abbrev pub directory : List ℕ → (at optional_size index : ℕ) → Directory
+directory bytes at optional_size index =
+    if has_directory bytes at optional_size index
+    then record { rva = u32_at bytes (at + 96 + 8 * index); size = u32_at bytes (at + 100 + 8 * index) }
+    else record { rva = 0; size = 0 }
+
+-- the fields of the optional header that are asked for; the Import Table is directory 1, the Base Relocation Table directory 5
 abbrev pub optional_header : List ℕ → (at optional_size : ℕ) → OptionalHeader
 optional_header bytes at optional_size = record {
   magic = u16_at bytes at;
@@ -37,8 +45,8 @@ optional_header bytes at optional_size = record {
   image_base = u32_at bytes (at + 28);
   image_size = u32_at bytes (at + 56);
   header_size = u32_at bytes (at + 60);
-  import_rva = directory_rva bytes at optional_size 1;
-  relocation_rva = directory_rva bytes at optional_size 5;
+  imports = directory bytes at optional_size 1;
+  relocations = directory bytes at optional_size 5;
 }
 
 abbrev pub section_header : List ℕ → ℕ → SectionHeader

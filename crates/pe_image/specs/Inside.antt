@@ -11,6 +11,8 @@ parts_inside image = record {
   header_size = image.header_size;
   headers = image.headers.items;
   sections = section_parts image.sections.items (map (λ bytes. bytes.items) image.contents.items);
+  relocations = image.relocations.items;
+  imports = image.imports.items;
 }
 
 -- the invariant of an image: a raw part for each section, and the layout

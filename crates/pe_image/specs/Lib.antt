@@ -1,4 +1,12 @@
+pub mod Contents
 pub mod File
+pub mod Headers
 pub mod Image
-pub mod FirstForm
+pub mod Imports
 pub mod Inside
+pub mod Lookup
+pub mod Outcome
+pub mod Reading
+pub mod Relocations
+pub mod Sections
+pub mod Spellings

@@ -2,15 +2,23 @@
 //! Header" and "Section Table"). Offsets count bytes from the file's start, and numbers are
 //! little-endian.
 
-ghost use Rattle.std.specs.Prelude.{◌≡◌, ◌≤◌, ◌<◌, ◌^◌, ◌+◌, length, Some, None, if◌then◌else◌, drop, take};
-ghost use Rattle.pe_image.specs.File.{u16_at, u32_at, file_header, directory_rva, optional_header, section_header, span_of, raw_of, rights_of, section_of};
-ghost use Rattle.pe_image.specs.FirstForm.{is_i386_driver, has_file_header, is_loadable, has_optional_header, is_placed, holds_entry, has_section_header, has_headers, headers_of};
+ghost use Rattle.std.specs.Prelude.{◌≡◌, ◌≤◌, ◌<◌, ◌^◌, ◌+◌, ◌*◌, length, IfOk, if◌then◌else◌, drop, take};
+ghost use Rattle.pe_image.specs.File.{u16_at, u32_at, file_header, directory, optional_header, section_header, span_of, raw_of, rights_of, section_of};
+ghost use Rattle.pe_image.specs.Sections.{end_of};
+ghost use Rattle.pe_image.specs.Headers.{dos_header, file_header_at, optional_header_at, headers_of};
 
+use crate::refusal::PeRefusal;
 use byteorder::{ByteOrder, LittleEndian};
 use nd_mem::Rights;
 
 /// The size of an image that is read, and of its file, at most.
 pub const SIZE_LIMIT: u32 = 0x40_0000;
+/// The sections of an image that is read, at most.
+const MOST_SECTIONS: u16 = 96;
+/// The size of the DOS header.
+const DOS_HEADER_SIZE: usize = 64;
+/// `MZ`.
+const DOS_SIGNATURE: u16 = 0x5A4D;
 /// Where the DOS header has the offset of the signature.
 const SIGNATURE_OFFSET: usize = 0x3C;
 /// `PE`, 0, 0.
@@ -19,12 +27,10 @@ const PE_SIGNATURE: u32 = 0x4550;
 const MACHINE_I386: u16 = 0x14C;
 /// The optional header's Magic in a PE32 file.
 const PE32_MAGIC: u16 = 0x10B;
-/// The ImageBase that is read so far.
-const IMAGE_BASE: u32 = 0x8010_0000;
 /// The data directory of the Import Table.
-const IMPORT_TABLE: usize = 1;
+pub const IMPORT_TABLE: u8 = 1;
 /// The data directory of the Base Relocation Table.
-const BASE_RELOCATION_TABLE: usize = 5;
+pub const BASE_RELOCATION_TABLE: u8 = 5;
 /// IMAGE_SCN_MEM_EXECUTE.
 const SECTION_EXECUTE: u32 = 0x2000_0000;
 /// IMAGE_SCN_MEM_READ.
@@ -50,6 +56,20 @@ pub fn u32_at(bytes: &[u8], at: usize) -> u32
     LittleEndian::read_u32(&bytes[at..])
 }
 
+/// The offset of the signature, which the DOS header has.
+#[tactic(auto, unfolding(crate::specs::Headers::dos_header))]
+fn dos_header(bytes: &[u8]) -> Result<u32, PeRefusal>
+    ensures { result ≡ dos_header bytes.now }
+{
+    if bytes.len() < DOS_HEADER_SIZE {
+        return Err(PeRefusal::Short(0));
+    }
+    if u16_at(bytes, 0) != DOS_SIGNATURE {
+        return Err(PeRefusal::NotPe);
+    }
+    Ok(u32_at(bytes, SIGNATURE_OFFSET))
+}
+
 /// The signature, and the fields of the COFF file header that are asked for.
 #[derive(Clone, Copy, Debug, PartialEq, Eq)]
 pub struct FileHeader {
@@ -58,23 +78,31 @@ pub struct FileHeader {
     pub section_count: u16,
     /// SizeOfOptionalHeader, in bytes.
     pub optional_size: u16,
+    pub characteristics: u16,
 }
 
 impl FileHeader {
     /// The bytes of the signature and of the header.
-    const SIZE: usize = 24;
+    const SIZE: u32 = 24;
 
-    /// The header at an offset, where it is there and that of a driver for i386 with one section.
-    #[tactic(auto, unfolding(crate::specs::FirstForm::has_file_header))]
-    fn find(bytes: &[u8], at: usize) -> Option<Self>
-        requires { at ≤ 2 ^ 33 }
-        ensures { result ≡ (if has_file_header bytes.now at then Some (file_header bytes.now at) else None) }
+    /// The header at an offset, where it is there and that of a PE file for i386.
+    #[tactic(auto, unfolding(crate::specs::Headers::file_header_at))]
+    fn find(bytes: &[u8], at: u32) -> Result<Self, PeRefusal>
+        ensures value { result ≡ file_header_at bytes.now at }
+        ensures within { IfOk result (λ _. at + 24 ≤ length bytes.now) }
     {
-        if at + Self::SIZE > bytes.len() {
-            return None;
+        let offset = at as usize;
+        if offset + Self::SIZE as usize > bytes.len() {
+            return Err(PeRefusal::Short(at));
         }
-        let header = Self::read(bytes, at);
-        header.is_i386_driver().then_some(header)
+        let header = Self::read(bytes, offset);
+        if header.signature != PE_SIGNATURE {
+            return Err(PeRefusal::NotPe);
+        }
+        if header.machine != MACHINE_I386 {
+            return Err(PeRefusal::NotI386);
+        }
+        Ok(header)
     }
 
     fn read(bytes: &[u8], at: usize) -> Self
@@ -86,14 +114,35 @@ impl FileHeader {
             machine: u16_at(bytes, at + 4),
             section_count: u16_at(bytes, at + 6),
             optional_size: u16_at(bytes, at + 20),
+            characteristics: u16_at(bytes, at + 22),
         }
     }
+}
 
-    #[tactic(auto, unfolding(crate::specs::FirstForm::is_i386_driver))]
-    fn is_i386_driver(&self) -> bool
-        ensures { result ≡ is_i386_driver self.now }
+/// A data directory: where a table of the image lies, and how many bytes it has.
+#[derive(Clone, Copy, Debug, PartialEq, Eq)]
+pub struct Directory {
+    /// The table's RVA, or 0.
+    pub rva: u32,
+    pub size: u32,
+}
+
+impl Directory {
+    /// The directory of this number, with the RVA 0 where the optional header leaves it out.
+    fn read(bytes: &[u8], at: usize, optional_size: usize, index: u8) -> Self
+        requires fixed { 96 ≤ optional_size }
+        requires within { at + optional_size ≤ length bytes.now }
+        ensures { result ≡ directory bytes.now at optional_size index }
     {
-        self.signature == PE_SIGNATURE && self.machine == MACHINE_I386 && self.section_count == 1
+        let offset = OptionalHeader::FIXED_SIZE + 8 * usize::from(index);
+        if u32::from(index) < u32_at(bytes, at + 92) && offset + 8 <= optional_size {
+            Directory {
+                rva: u32_at(bytes, at + offset),
+                size: u32_at(bytes, at + offset + 4),
+            }
+        } else {
+            Directory { rva: 0, size: 0 }
+        }
     }
 }
 
@@ -108,28 +157,31 @@ pub struct OptionalHeader {
     pub image_size: u32,
     /// SizeOfHeaders, in bytes.
     pub header_size: u32,
-    /// The RVA of the Import Table, or 0.
-    pub import_rva: u32,
-    /// The RVA of the Base Relocation Table, or 0.
-    pub relocation_rva: u32,
+    /// The Import Table.
+    pub imports: Directory,
+    /// The Base Relocation Table.
+    pub relocations: Directory,
 }
 
 impl OptionalHeader {
     /// The bytes in front of the data directories.
     const FIXED_SIZE: usize = 96;
 
-    /// The header at an offset, where it is there and that of a PE32 image that can be loaded.
-    #[tactic(auto, unfolding(crate::specs::FirstForm::has_optional_header))]
-    fn find(bytes: &[u8], at: usize, optional_size: usize) -> Option<Self>
-        requires offset { at ≤ 2 ^ 33 }
-        requires size { optional_size ≤ 2 ^ 33 }
-        ensures { result ≡ (if has_optional_header bytes.now at optional_size then Some (optional_header bytes.now at optional_size) else None) }
+    /// The header of this size at an offset, where it is there and that of a PE32 image.
+    #[tactic(auto, unfolding(crate::specs::Headers::optional_header_at))]
+    fn find(bytes: &[u8], at: u32, size: u16) -> Result<Self, PeRefusal>
+        ensures value { result ≡ optional_header_at bytes.now at size }
+        ensures within { IfOk result (λ _. at + size ≤ length bytes.now) }
     {
-        if optional_size < Self::FIXED_SIZE || at + optional_size > bytes.len() {
-            return None;
+        let offset = at as usize;
+        let size = usize::from(size);
+        if offset + size > bytes.len() {
+            return Err(PeRefusal::Short(at));
         }
-        let header = Self::read(bytes, at, optional_size);
-        header.is_loadable().then_some(header)
+        if size < Self::FIXED_SIZE || u16_at(bytes, offset) != PE32_MAGIC {
+            return Err(PeRefusal::NotPe32);
+        }
+        Ok(Self::read(bytes, offset, size))
     }
 
     fn read(bytes: &[u8], at: usize, optional_size: usize) -> Self
@@ -143,35 +195,43 @@ impl OptionalHeader {
             image_base: u32_at(bytes, at + 28),
             image_size: u32_at(bytes, at + 56),
             header_size: u32_at(bytes, at + 60),
-            import_rva: directory_rva(bytes, at, optional_size, IMPORT_TABLE),
-            relocation_rva: directory_rva(bytes, at, optional_size, BASE_RELOCATION_TABLE),
+            imports: Directory::read(bytes, at, optional_size, IMPORT_TABLE),
+            relocations: Directory::read(bytes, at, optional_size, BASE_RELOCATION_TABLE),
         }
-    }
-
-    #[tactic(auto, unfolding(crate::specs::FirstForm::is_loadable))]
-    fn is_loadable(&self) -> bool
-        ensures { result ≡ is_loadable self.now }
-    {
-        self.magic == PE32_MAGIC
-            && self.image_size <= SIZE_LIMIT
-            && self.image_base == IMAGE_BASE
-            && self.import_rva == 0
-            && self.relocation_rva == 0
     }
 }
 
-/// The RVA in a data directory, or 0 where the optional header leaves that out.
-fn directory_rva(bytes: &[u8], at: usize, optional_size: usize, index: usize) -> u32
-    requires fixed { 96 ≤ optional_size }
-    requires within { at + optional_size ≤ length bytes.now }
-    requires index { index < 16 }
-    ensures { result ≡ directory_rva bytes.now at optional_size index }
-{
-    let offset = OptionalHeader::FIXED_SIZE + 8 * index;
-    if index < u32_at(bytes, at + 92) as usize && offset + 8 <= optional_size {
-        u32_at(bytes, at + offset)
-    } else {
-        0
+/// The headers of a file in front of its section table.
+#[derive(Clone, Copy, Debug, PartialEq, Eq)]
+pub struct Headers {
+    pub file: FileHeader,
+    pub image: OptionalHeader,
+    /// The section table's offset.
+    pub section_table: u32,
+}
+
+impl Headers {
+    /// The headers of a file, where they are those of an image that is small enough.
+    #[tactic(auto, unfolding(crate::specs::Headers::headers_of))]
+    pub fn find(bytes: &[u8]) -> Result<Self, PeRefusal>
+        requires { length bytes.now ≤ 0x400000 }
+        ensures value { result ≡ headers_of bytes.now }
+        ensures image_size { IfOk result (λ headers. headers.image.image_size ≤ 0x400000) }
+        ensures section_count { IfOk result (λ headers. headers.file.section_count ≤ 96) }
+    {
+        let signature_at = dos_header(bytes)?;
+        let file = FileHeader::find(bytes, signature_at)?;
+        let optional_at = signature_at + FileHeader::SIZE;
+        let image = OptionalHeader::find(bytes, optional_at, file.optional_size)?;
+        if image.image_size > SIZE_LIMIT || file.section_count > MOST_SECTIONS {
+            return Err(PeRefusal::TooLarge);
+        }
+        let section_table = optional_at + u32::from(file.optional_size);
+        Ok(Headers {
+            file,
+            image,
+            section_table,
+        })
     }
 }
 
@@ -187,23 +247,11 @@ pub struct SectionHeader {
 }
 
 impl SectionHeader {
-    const SIZE: usize = 40;
+    /// The bytes of a header.
+    pub const SIZE: usize = 40;
 
-    /// The header at an offset, where it is there, its section lies within the image and the file,
-    /// and it holds the entry point.
-    #[tactic(auto, unfolding(crate::specs::FirstForm::has_section_header))]
-    fn find(bytes: &[u8], at: usize, image: &OptionalHeader) -> Option<Self>
-        requires { at ≤ 2 ^ 33 }
-        ensures { result ≡ (if has_section_header bytes.now at image.now then Some (section_header bytes.now at) else None) }
-    {
-        if at + Self::SIZE > bytes.len() {
-            return None;
-        }
-        let header = Self::read(bytes, at);
-        (header.is_placed(image, bytes.len()) && header.holds_entry(image)).then_some(header)
-    }
-
-    fn read(bytes: &[u8], at: usize) -> Self
+    /// The header at an offset.
+    pub fn read(bytes: &[u8], at: usize) -> Self
         requires { at + 40 ≤ length bytes.now }
         ensures { result ≡ section_header bytes.now at }
     {
@@ -230,8 +278,15 @@ impl SectionHeader {
         }
     }
 
-    /// How many of them are in the file.
-    fn raw(&self) -> u32
+    /// Where the section ends in the image.
+    pub fn end(&self) -> u64
+        ensures { result ≡ end_of self.now }
+    {
+        u64::from(self.virtual_address) + u64::from(self.span())
+    }
+
+    /// How many of its bytes are in the file.
+    pub fn raw(&self) -> u32
         ensures { result ≡ raw_of self.now }
     {
         if self.raw_pointer == 0 {
@@ -248,31 +303,6 @@ impl SectionHeader {
     {
         let start = self.raw_pointer as usize;
         &bytes[start..start + self.raw() as usize]
-    }
-
-    /// Whether the section lies in the image, behind its headers, and its raw part in the file.
-    #[tactic(auto, unfolding(crate::specs::FirstForm::is_placed))]
-    fn is_placed(&self, image: &OptionalHeader, file_size: usize) -> bool
-        ensures { result ≡ is_placed image.now self.now file_size }
-    {
-        let start = u64::from(self.virtual_address);
-        let span = u64::from(self.span());
-        let raw_start = u64::from(self.raw_pointer);
-        let raw = u64::from(self.raw());
-        start + span <= u64::from(image.image_size)
-            && (span == 0 || image.header_size <= self.virtual_address)
-            && (raw_start == 0 || raw_start + raw <= file_size as u64)
-    }
-
-    /// Whether the entry point lies in the section, which can be executed.
-    #[tactic(auto, unfolding(crate::specs::FirstForm::holds_entry))]
-    fn holds_entry(&self, image: &OptionalHeader) -> bool
-        ensures { result ≡ holds_entry image.now self.now }
-    {
-        let end = u64::from(self.virtual_address) + u64::from(self.span());
-        self.virtual_address <= image.entry
-            && u64::from(image.entry) < end
-            && rights(self.characteristics).execute
     }
 
     pub fn section(&self) -> Section
@@ -310,27 +340,4 @@ pub struct Section {
     /// How many of them are in the file. The others are zeros.
     pub raw: u32,
     pub rights: Rights,
-}
-
-/// The headers of a file of the first form.
-#[derive(Clone, Copy, Debug, PartialEq, Eq)]
-pub struct Headers {
-    pub image: OptionalHeader,
-    pub section: SectionHeader,
-}
-
-impl Headers {
-    /// The headers behind a DOS header, where they are those of the first form.
-    pub fn find(bytes: &[u8]) -> Option<Self>
-        requires { 64 ≤ length bytes.now }
-        ensures { result ≡ (if has_headers bytes.now then Some (headers_of bytes.now) else None) }
-    {
-        let signature_at = u32_at(bytes, SIGNATURE_OFFSET) as usize;
-        let file = FileHeader::find(bytes, signature_at)?;
-        let optional_at = signature_at + FileHeader::SIZE;
-        let optional_size = file.optional_size as usize;
-        let image = OptionalHeader::find(bytes, optional_at, optional_size)?;
-        let section = SectionHeader::find(bytes, optional_at + optional_size, &image)?;
-        Some(Headers { image, section })
-    }
 }

@@ -1,0 +1,4 @@
+pub mod Entries
+pub mod Guest
+pub mod Run
+pub mod Session

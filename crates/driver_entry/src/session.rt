@@ -1,0 +1,199 @@
+//! A run of DriverEntry, from its first instruction to its end.
+
+ghost use Rattle.std.specs.Prelude.{◌≡◌, [], ◌≢◌, ℕ, ◌+◌, ◌<◌, ◌≤◌, true, false, OnOk, IfOk, IfSome, IfNone};
+ghost use Rattle.ia32_step.specs.Machine.{outcome, answer_to};
+ghost use Rattle.driver_entry.specs.Run.{FaultsBy, Inputs, machine, turned, is_moved};
+ghost use Rattle.driver_entry.specs.Session.{machine_of, IsOpen, IsRunning, HasEnded};
+ghost use Rattle.ia32_step.specs.Machine.{Trapped};
+
+use crate::entries::{Entry, Handler};
+use crate::guest::{DRIVER_ENTRY_WORDS, LEAVE_SLOT, LOAD_BASE, STACK_END, put_words, start_memory};
+use ia32_step::{FaultKind, Regs, Stepped, step};
+use nd_base::{Addr, CtxNo, OutOfMemory, Slot, Status};
+use nd_mem::Memory;
+use pe_image::Image;
+use std::alloc::Global;
+
+/// How DriverEntry ended.
+#[derive(Clone, Copy, Debug, PartialEq, Eq)]
+pub enum Ending {
+    /// It returned this status.
+    Left(Status),
+    /// An instruction had no result.
+    Faulting,
+    /// The budget is spent.
+    Spent,
+}
+
+/// How many instructions a turn made, and what the step behind them answered: `Went` where the
+/// turn ended because it may make no more.
+#[derive(Drop)]
+struct Turned {
+    count: u8,
+    last: Stepped,
+}
+
+/// Makes at most `most` instructions in a row.
+fn make_turn(regs: &mut Regs, memory: &mut Memory, most: u8) -> Turned
+    ensures count { result.count ≤ most }
+    ensures moves { (k : ℕ) → k < result.count → is_moved (outcome (turned k (machine regs.old memory.old))) ≡ true }
+    ensures state { machine regs.new memory.new ≡ turned result.count (machine regs.old memory.old) }
+    ensures whole { result.last ≡ Stepped.Went → result.count ≡ most }
+    ensures ending { result.last ≢ Stepped.Went → answer_to (outcome (machine regs.new memory.new)) ≡ result.last }
+{
+    let mut count = 0;
+    while count < most {
+        match step(regs, memory) {
+            Stepped::Went => count += 1,
+            last => return Turned { count, last },
+        }
+    }
+    Turned {
+        count,
+        last: Stepped::Went,
+    }
+}
+
+/// The context of DriverEntry.
+const CONTEXT: CtxNo = CtxNo(0);
+
+/// The number of the register that a status is returned in.
+const EAX: u8 = 0;
+
+/// The number of the stack pointer.
+const ESP: u8 = 4;
+
+/// Where DriverEntry's stack begins: the address that it returns to, and its two words.
+const STACK_POINTER: u32 = STACK_END - 12;
+
+/// A turn ends at this many instructions.
+const TURN_LENGTH: u32 = 64;
+
+/// A run of DriverEntry as far as it has come.
+#[derive(Drop)]
+pub struct Session {
+    pub regs: Regs,
+    pub memory: Memory,
+    /// How many instructions it may take in all.
+    pub budget: u32,
+    /// How many it has taken.
+    pub charged: u32,
+    pub log: Vec<Entry>,
+}
+
+impl Session {
+    /// Begins DriverEntry of an image, with this budget.
+    pub fn enter(alloc: Global, image: &Image, budget: u32) -> Result<Session, OutOfMemory>
+        requires some { 0 < budget }
+        requires no_imports { image.now.imports ≡ [] }
+        ensures { IfOk result (IsRunning (record { image = image.now; budget = budget })) }
+    {
+        let entry = image.entry();
+        let mut memory = start_memory(alloc, image)?;
+        let [driver, registry] = DRIVER_ENTRY_WORDS;
+        put_words(&mut memory, STACK_POINTER, &[LEAVE_SLOT, driver, registry]);
+        let mut regs = Regs::new();
+        regs.set(ESP, STACK_POINTER);
+        regs.set_eip(LOAD_BASE + entry);
+        let mut log = Vec::new(alloc);
+        log.push(Entry::Enter {
+            context: CONTEXT,
+            handler: Handler::DriverEntry,
+            words: DRIVER_ENTRY_WORDS,
+        })?;
+        Ok(Session {
+            regs,
+            memory,
+            budget,
+            charged: 0,
+            log,
+        })
+    }
+
+    /// Makes one turn, and logs it where it made an instruction.
+    fn turn(&mut self) -> Result<Stepped, OutOfMemory>
+        ghost inputs: { Inputs }
+        requires { IsRunning inputs self.old }
+        ensures open { OnOk result (IsOpen inputs self.new) }
+        ensures last { IfOk result (λ last. last ≢ Stepped.Went → answer_to (outcome (machine_of self.new)) ≡ last) }
+        ensures went { IfOk result (λ last. last ≡ Stepped.Went → self.old.charged < self.new.charged) }
+    {
+        let most = (self.budget - self.charged).min(TURN_LENGTH) as u8;
+        let turned = make_turn(&mut self.regs, &mut self.memory, most);
+        if turned.count == 0 {
+            return Ok(turned.last);
+        }
+        self.log.push(Entry::Turn {
+            context: CONTEXT,
+            count: turned.count,
+        })?;
+        self.charged += u32::from(turned.count);
+        Ok(turned.last)
+    }
+
+    /// Logs that the next instruction has no result.
+    fn fault(&mut self, kind: FaultKind, address: Addr) -> Result<Ending, OutOfMemory>
+        ghost inputs: { Inputs }
+        requires running { IsRunning inputs self.old }
+        requires faults { FaultsBy (outcome (machine_of self.old)) self.old.regs.eip kind address }
+        ensures { IfOk result (λ ending. HasEnded inputs self.new ending) }
+    {
+        self.log.push(Entry::Fault {
+            context: CONTEXT,
+            kind,
+            address,
+        })?;
+        Ok(Ending::Faulting)
+    }
+
+    /// Logs that the handler returned.
+    fn leave(&mut self) -> Result<Ending, OutOfMemory>
+        ghost inputs: { Inputs }
+        requires running { IsRunning inputs self.old }
+        requires leaves { outcome (machine_of self.old) ≡ Trapped Slot.Leave }
+        ensures { IfOk result (λ ending. HasEnded inputs self.new ending) }
+    {
+        let status = Status(self.regs.get(EAX));
+        self.log.push(Entry::Leave {
+            context: CONTEXT,
+            status,
+        })?;
+        Ok(Ending::Left(status))
+    }
+
+    /// One turn and what ends it. Answers how DriverEntry ended, if it did.
+    fn go_on(&mut self) -> Result<Option<Ending>, OutOfMemory>
+        ghost inputs: { Inputs }
+        requires { IsRunning inputs self.old }
+        ensures on { IfOk result (λ ending. IfNone ending (IsRunning inputs self.new)) }
+        ensures later { IfOk result (λ ending. IfNone ending (self.old.charged < self.new.charged)) }
+        ensures ended { IfOk result (λ ending. IfSome ending (HasEnded inputs self.new)) }
+    {
+        let last = self.turn()?;
+        if self.charged >= self.budget {
+            return Ok(Some(Ending::Spent));
+        }
+        match last {
+            Stepped::Went => Ok(None),
+            Stepped::Trap(Slot::Leave) => Ok(Some(self.leave()?)),
+            Stepped::Trap(Slot::Import(_)) => {
+                let address = Addr(self.regs.eip());
+                Ok(Some(self.fault(FaultKind::Unmapped, address)?))
+            }
+            Stepped::Fault(kind, address) => Ok(Some(self.fault(kind, address)?)),
+        }
+    }
+
+    /// Goes on to the end of DriverEntry.
+    pub fn finish(&mut self) -> Result<Ending, OutOfMemory>
+        ghost inputs: { Inputs }
+        requires { IsRunning inputs self.old }
+        ensures { IfOk result (λ ending. HasEnded inputs self.new ending) }
+    {
+        loop {
+            if let Some(ending) = self.go_on()? {
+                return Ok(ending);
+            }
+        }
+    }
+}

@@ -1,0 +1,16 @@
+pub mod FoldLemmas
+pub mod TableLemmas
+pub mod SectionLemmas
+pub mod NumberLemmas
+pub mod StringLemmas
+pub mod ModelLemmas
+pub mod ParamLemmas
+pub mod ListLemmas
+pub mod ParameterLemmas
+pub mod Slices
+pub mod QuoteLoops
+pub mod CharacterLoops
+pub mod JoinLoops
+pub mod ReadingLoops
+pub mod WrittenLines
+pub mod WrittenFiles

@@ -1,0 +1,10 @@
+use Rattle.std.proofs.Common.{◌≡◌, length}
+use Rattle.inf_file.specs.Keyed.{string_in}
+use Rattle.inf_file.specs.Strings.{lacks_string}
+use Rattle.inf_file.proofs.strings.Strings.lacks_string.Given as goal
+
+abbrev pub invariant-loop-plain : goal.invariant-loop-plain
+invariant-loop-plain l = lacks_string (string_in l.self) l.rest ≡ lacks_string (string_in l.self) l.text
+
+abbrev pub decreases-loop-plain : goal.decreases-loop-plain
+decreases-loop-plain l = length l.rest

@@ -1,0 +1,13 @@
+pub mod Sections
+pub mod Keyed
+pub mod Strings
+pub mod Numbers
+pub mod Models
+pub mod Rows
+pub mod Parameters
+pub mod Outcome
+pub mod Characters
+pub mod Quotes
+pub mod Joining
+pub mod Reading
+pub mod Written

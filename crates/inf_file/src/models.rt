@@ -1,0 +1,268 @@
+//! How a hardware id leads to an install section.
+
+ghost use Rattle.std.specs.Prelude.{codes, ◌≡◌, ◌++◌, drop, take, filter, length, IfOk};
+ghost use Rattle.std.specs.List.{fold, list_any};
+ghost use Rattle.std.specs.Option.{option_copied};
+ghost use Rattle.inf_file.specs.Keyed.{string_in};
+ghost use Rattle.inf_file.specs.Sections.{is_same, has_key, value_at, place_named, lines_at_some};
+ghost use Rattle.inf_file.specs.Strings.{replaced};
+ghost use Rattle.inf_file.specs.Models.{is_good_signature, is_signed_by, is_signed, dotted, usual_names, first_place, is_nt_x86, decoration_place, decorated_place, models_place, has_id, id_among, earlier, if_has_id, earliest, model_of, install_place};
+
+use crate::fold::{is_same, is_word};
+use crate::sections::{Inf, Line};
+use crate::strings::Strings;
+use nd_base::{OutOfMemory, Wide};
+use std::alloc::Global;
+
+const DOT: u16 = 46;
+
+#[tactic(auto, unfolding(crate::specs::Models::is_good_signature))]
+fn is_good_signature(text: &[u16]) -> bool
+    ensures { result ≡ is_good_signature text.now }
+{
+    is_word(text, b"$Windows NT$") || is_word(text, b"$Chicago$") || is_word(text, b"$Windows 95$")
+}
+
+#[tactic(auto, unfolding(crate::specs::Models::is_signed_by))]
+fn is_signed_by(line: &Line) -> bool
+    ensures { result ≡ is_signed_by line.now }
+{
+    line.has_key(b"Signature") && is_good_signature(line.value_at(0))
+}
+
+/// Whether a line of `[Version]` has a signature of Windows.
+#[tactic(auto, unfolding(crate::specs::Models::is_signed))]
+pub fn is_signed(lines: &[Line]) -> bool
+    ensures { result ≡ is_signed lines.now }
+{
+    lines.iter().any(|line| is_signed_by(line))
+}
+
+/// A section's name with a decoration.
+#[tactic(auto, unfolding(crate::specs::Models::dotted))]
+fn dotted(alloc: Global, name: &[u16], decoration: &[u16]) -> Result<Wide, OutOfMemory>
+    ensures { IfOk result (λ text. text ≡ dotted name.now decoration.now) }
+{
+    let mut text = Wide::copy(alloc, name)?;
+    text.push(DOT)?;
+    text.extend_from_slice(decoration)?;
+    Ok(text)
+}
+
+/// The place of the section of a name with a decoration.
+fn decorated_section(
+    inf: &Inf,
+    alloc: Global,
+    name: &[u16],
+    decoration: &[u16],
+) -> Result<Option<usize>, OutOfMemory>
+    ensures { IfOk result (λ place. place ≡ place_named (dotted name.now decoration.now) inf.now) }
+{
+    let text = dotted(alloc, name, decoration)?;
+    inf.place(alloc, text.as_slice())
+}
+
+/// The place of the closest section for i386 that exists of a name.
+#[tactic(auto, unfolding(crate::specs::Models::first_place, crate::specs::Models::usual_names))]
+fn usual_place(inf: &Inf, alloc: Global, name: &[u16]) -> Result<Option<usize>, OutOfMemory>
+    ensures { IfOk result (λ place. place ≡ first_place (usual_names name.now) inf.now) }
+{
+    if let Some(place) = decorated_section(inf, alloc, name, &NT_X86)? {
+        return Ok(Some(place));
+    }
+    if let Some(place) = decorated_section(inf, alloc, name, &NT)? {
+        return Ok(Some(place));
+    }
+    inf.place(alloc, name)
+}
+
+/// `NTx86`.
+const NT_X86: [u16; 5] = [78, 84, 120, 56, 54];
+
+/// `NT`.
+const NT: [u16; 2] = [78, 84];
+
+/// Whether a decoration begins with `NTx86`.
+#[tactic(auto, unfolding(crate::specs::Models::is_nt_x86))]
+fn is_nt_x86(decoration: &[u16]) -> bool
+    ensures { result ≡ is_nt_x86 decoration.now }
+{
+    is_word(&decoration[..decoration.len().min(5)], b"NTx86")
+}
+
+/// The place of the section of a name with a decoration that is meant for i386.
+#[tactic(auto, unfolding(crate::specs::Models::decoration_place))]
+fn decoration_place(
+    inf: &Inf,
+    alloc: Global,
+    strings: &Strings,
+    name: &[u16],
+    decoration: &[u16],
+) -> Result<Option<usize>, OutOfMemory>
+    ensures { IfOk result (λ place. place ≡ decoration_place (string_in strings.now) inf.now name.now decoration.now) }
+{
+    let text = strings.replaced(alloc, decoration)?;
+    if is_nt_x86(text.as_slice()) {
+        decorated_section(inf, alloc, name, text.as_slice())
+    } else {
+        Ok(None)
+    }
+}
+
+/// The place of the first section that exists of a name with one of the decorations.
+fn decorated_place(
+    inf: &Inf,
+    alloc: Global,
+    strings: &Strings,
+    name: &[u16],
+    decorations: &[Wide],
+) -> Result<Option<usize>, OutOfMemory>
+    ensures { IfOk result (λ place. place ≡ decorated_place (string_in strings.now) inf.now name.now decorations.now) }
+{
+    for value in decorations {
+        match decoration_place(inf, alloc, strings, name, value.as_slice())? {
+            Some(place) => return Ok(Some(place)),
+            None => {}
+        }
+    }
+    Ok(None)
+}
+
+/// All values but the first.
+fn behind_first(values: &[Wide]) -> &[Wide]
+    ensures { result.now ≡ drop 1 values.now }
+{
+    if values.is_empty() {
+        values
+    } else {
+        &values[1..]
+    }
+}
+
+/// The place of the models section that a manufacturer's line leads to.
+#[tactic(auto, unfolding(crate::specs::Models::models_place))]
+fn models_place(
+    inf: &Inf,
+    alloc: Global,
+    strings: &Strings,
+    maker: &Line,
+) -> Result<Option<usize>, OutOfMemory>
+    ensures { IfOk result (λ place. place ≡ models_place (string_in strings.now) inf.now maker.now) }
+{
+    let name = strings.value(alloc, maker, 0)?;
+    let decorations = behind_first(maker.values());
+    match decorated_place(inf, alloc, strings, name.as_slice(), decorations)? {
+        Some(place) => Ok(Some(place)),
+        None => usual_place(inf, alloc, name.as_slice()),
+    }
+}
+
+/// Whether one of the values is the hardware id.
+fn id_among(
+    alloc: Global,
+    strings: &Strings,
+    id: &[u16],
+    values: &[Wide],
+) -> Result<bool, OutOfMemory>
+    ensures { IfOk result (λ b. b ≡ id_among (string_in strings.now) id.now values.now) }
+{
+    for value in values {
+        let text = strings.replaced(alloc, value.as_slice())?;
+        if is_same(id, text.as_slice()) {
+            return Ok(true);
+        }
+    }
+    Ok(false)
+}
+
+/// The earlier of two lines, where the second has the hardware id.
+#[tactic(auto, unfolding(crate::specs::Models::has_id, crate::specs::Models::if_has_id))]
+fn if_has_id<'a>(
+    alloc: Global,
+    strings: &Strings,
+    id: &[u16],
+    best: Option<&'a Line>,
+    line: &'a Line,
+) -> Result<Option<&'a Line>, OutOfMemory>
+    ensures { IfOk result (λ l. option_copied l ≡ if_has_id (string_in strings.now) id.now (option_copied best.entry) line.now) }
+{
+    if !id_among(alloc, strings, id, behind_first(line.values()))? {
+        return Ok(best);
+    }
+    match best {
+        None => Ok(Some(line)),
+        Some(first) => {
+            if line.number() < first.number() {
+                Ok(Some(line))
+            } else {
+                Ok(Some(first))
+            }
+        }
+    }
+}
+
+/// The earliest line with the hardware id.
+fn earliest<'a>(
+    alloc: Global,
+    strings: &Strings,
+    id: &[u16],
+    first: Option<&'a Line>,
+    lines: &'a [Line],
+) -> Result<Option<&'a Line>, OutOfMemory>
+    ensures { IfOk result (λ l. option_copied l ≡ fold (if_has_id (string_in strings.now) id.now) (option_copied first.entry) lines.now) }
+{
+    let mut best = first;
+    for line in lines {
+        best = if_has_id(alloc, strings, id, best, line)?;
+    }
+    Ok(best)
+}
+
+/// The earliest line with the hardware id that a manufacturer leads to.
+#[tactic(auto, unfolding(crate::specs::Models::earliest))]
+fn earliest_of_maker<'a>(
+    inf: &'a Inf,
+    alloc: Global,
+    strings: &Strings,
+    id: &[u16],
+    best: Option<&'a Line>,
+    maker: &Line,
+) -> Result<Option<&'a Line>, OutOfMemory>
+    ensures { IfOk result (λ l. option_copied l ≡ earliest (string_in strings.now) inf.now id.now (option_copied best.entry) maker.now) }
+{
+    match models_place(inf, alloc, strings, maker)? {
+        Some(place) => earliest(alloc, strings, id, best, inf.lines_at(place)),
+        None => Ok(best),
+    }
+}
+
+/// The first line of the file among the model lines with the hardware id.
+pub fn model_of<'a>(
+    inf: &'a Inf,
+    alloc: Global,
+    strings: &Strings,
+    makers: &[Line],
+    id: &[u16],
+) -> Result<Option<&'a Line>, OutOfMemory>
+    ensures { IfOk result (λ l. option_copied l ≡ model_of (string_in strings.now) inf.now makers.now id.now) }
+{
+    let mut best: Option<&Line> = None;
+    for maker in makers {
+        best = earliest_of_maker(inf, alloc, strings, id, best, maker)?;
+    }
+    Ok(best)
+}
+
+/// The place of the install section that a model line names.
+#[tactic(auto, unfolding(crate::specs::Models::install_place))]
+pub fn install_place(
+    inf: &Inf,
+    alloc: Global,
+    strings: &Strings,
+    model: &Line,
+) -> Result<Option<usize>, OutOfMemory>
+    ensures { IfOk result (λ place. place ≡ install_place (string_in strings.now) inf.now model.now) }
+{
+    let name = strings.value(alloc, model, 0)?;
+    usual_place(inf, alloc, name.as_slice())
+}

@@ -1,0 +1,154 @@
+//! Reading the text of an INF file.
+
+ghost use Rattle.std.specs.Prelude.{ℕ, List, ◌≤◌, ◌≡◌, ◌<◌, [], None, false, length, IfOk, IfErr, ◌⊎◌};
+ghost use Rattle.std.specs.Str.Lines.{lines};
+ghost use Rattle.inf_file.specs.Sections.{Section as InfSection};
+ghost use Rattle.inf_file.specs.Outcome.{Gives};
+ghost use Rattle.inf_file.specs.Characters.{characters};
+ghost use Rattle.inf_file.specs.Written.{written, AreSectionsFrom};
+ghost use Rattle.inf_file.specs.Joining.{joined};
+ghost use Rattle.inf_file.specs.Quotes.{is_open, trimmed_start, cut};
+ghost use Rattle.inf_file.specs.Reading.{with_header, entry, with_entry, with_joined, with_all, sections_of_lines, sections_of, IsWithin};
+
+use crate::characters::characters;
+use crate::joining::{Joined, joined_lines};
+use crate::quotes::{cut, is_open, trimmed_start, value, values};
+use crate::refusal::InfRefusal;
+use crate::sections::{Inf, Line};
+use nd_base::OutOfMemory;
+use std::alloc::Global;
+
+#[cfg(test)]
+mod tests;
+
+/// The longest file that is read, in bytes.
+const LONGEST_FILE: usize = 1_048_576;
+
+/// The bracket that begins a header.
+const OPENING: u16 = 91;
+
+/// The bracket that ends the name of a header.
+const CLOSING: u16 = 93;
+
+/// The sign behind a key.
+const EQUALS: u16 = 61;
+
+/// The line of characters that are no header.
+fn entry(alloc: Global, number: u32, chars: &[u16]) -> Result<Line, OutOfMemory>
+    ensures { IfOk result (λ l. l ≡ entry number chars.now (cut 61 chars.now)) }
+{
+    match cut(EQUALS, chars) {
+        Some((key, rest)) => {
+            let key = value(alloc, key)?;
+            Ok(Line::new(number, Some(key), values(alloc, rest)?))
+        }
+        None => Ok(Line::new(number, None, values(alloc, chars)?)),
+    }
+}
+
+impl Inf {
+    /// Takes a header without its first bracket. Gives the place of its section.
+    fn take_header(
+        &mut self,
+        alloc: Global,
+        number: u32,
+        place: Option<usize>,
+        chars: &[u16],
+    ) -> Result<Option<usize>, InfRefusal>
+        ensures value { Gives (λ p. record { sections = self.new; place = p }) result (with_header number (record { sections = self.old; place = place }) (cut 93 chars.now)) }
+        ensures within { IfOk result (λ p. IsWithin p self.new) }
+    {
+        let Some((name, _)) = cut(CLOSING, chars) else {
+            return Err(InfRefusal::Line(number));
+        };
+        let name = value(alloc, name)?;
+        let begun = self.begin_section(alloc, name.as_slice())?;
+        Ok(Some(begun))
+    }
+
+    /// Takes a line of the section at a place.
+    fn take_entry(
+        &mut self,
+        alloc: Global,
+        number: u32,
+        place: Option<usize>,
+        chars: &[u16],
+    ) -> Result<Option<usize>, InfRefusal>
+        requires { IsWithin place self.old }
+        ensures value { Gives (λ p. record { sections = self.new; place = p }) result (with_entry (entry number chars.now (cut 61 chars.now)) self.old place) }
+        ensures within { IfOk result (λ p. IsWithin p self.new) }
+    {
+        let Some(at) = place else {
+            return Err(InfRefusal::Line(number));
+        };
+        let line = entry(alloc, number, chars)?;
+        self.add_line(at, line)?;
+        Ok(Some(at))
+    }
+
+    /// Takes a joined line, behind a header whose section is at a place. Gives the place of the
+    /// last header's section.
+    fn take_line(
+        &mut self,
+        alloc: Global,
+        place: Option<usize>,
+        line: &Joined,
+    ) -> Result<Option<usize>, InfRefusal>
+        requires { IsWithin place self.old }
+        ensures value { Gives (λ p. record { sections = self.new; place = p }) result (with_joined (record { sections = self.old; place = place }) line.now) }
+        ensures within { IfOk result (λ p. IsWithin p self.new) }
+    {
+        let chars = trimmed_start(line.text.as_slice());
+        if chars.is_empty() {
+            return Ok(place);
+        }
+        if chars[0] == OPENING {
+            return self.take_header(alloc, line.number, place, &chars[1..]);
+        }
+        if is_open(false, chars) {
+            return Err(InfRefusal::Line(line.number));
+        }
+        self.take_entry(alloc, line.number, place, chars)
+    }
+
+    /// The sections that joined lines say.
+    fn of_lines(alloc: Global, lines: &[Joined]) -> Result<Inf, InfRefusal>
+        ensures { Gives (λ i. i) result (sections_of_lines lines.now) }
+    {
+        let mut inf = Inf::empty(alloc);
+        let mut place = None;
+        for line in lines {
+            place = inf.take_line(alloc, place, line)?;
+        }
+        Ok(inf)
+    }
+
+    /// The sections that bytes say.
+    fn of_bytes(alloc: Global, bytes: &[u8]) -> Result<Inf, InfRefusal>
+        ensures { Gives (λ i. i) result (sections_of bytes.now) }
+    {
+        if bytes.len() > LONGEST_FILE {
+            return Err(InfRefusal::TooLong);
+        }
+        let text = characters(alloc, bytes)?;
+        let lines = joined_lines(alloc, text.as_slice())?;
+        Inf::of_lines(alloc, lines.as_slice())
+    }
+
+    /// The sections of an INF file of at most 1,048,576 bytes. Text behind the byte order mark
+    /// `FF FE` is UTF-16, and of other text each byte is the character of that number. What is
+    /// refused is refused with its first fault.
+    pub fn read(alloc: Global, bytes: &[u8]) -> Result<Inf, InfRefusal>
+        ensures found { IfOk result (λ i. sections_of bytes.now ≡ Ok i) }
+        // A refusal is the first fault, unless memory ran out.
+        ensures refused { IfErr result (λ e. (e ≡ InfRefusal.OutOfMemory) ⊎ (sections_of bytes.now ≡ Err e)) }
+    {
+        Inf::of_bytes(alloc, bytes)
+    }
+}
+
+/// An INF file has its sections as they were written, where each name, key and value stands in
+/// quotes: whatever else these hold beside line feeds, as blanks, separators and quotation marks.
+pub fn written_is_read()
+    ensures { (bytes : List ℕ) (ss : List InfSection) → length bytes ≤ 1048576 → characters bytes ≡ Ok (written ss) → AreSectionsFrom 1 [] ss → sections_of bytes ≡ Ok ss }
+{}

@@ -1,8 +1,0 @@
-use Rattle.ndis_run.specs.Session.{machine_of}
-use Rattle.ndis_run.proofs.Turns.{fault_logged}
-use Rattle.ndis_run.proofs.session.Session.fault.Goals as goal
-
-pub returns : goal.returns
-returns g c =
-    let ended = fault_logged g.inputs _ _ (machine_of c.args.self.now) c.args.self.now.charged c.args.kind c.args.address c.requires.0.reached c.requires.0.unspent c.requires.1 c.in_ok-push.ensures.items in
-    record { whole = ended.0; sum = ended.1 }

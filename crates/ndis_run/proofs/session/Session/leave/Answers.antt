@@ -1,8 +1,0 @@
-use Rattle.ndis_run.specs.Session.{machine_of}
-use Rattle.ndis_run.proofs.Turns.{leave_logged}
-use Rattle.ndis_run.proofs.session.Session.leave.Goals as goal
-
-pub returns : goal.returns
-returns g c =
-    let ended = leave_logged g.inputs _ _ (machine_of c.args.self.now) c.args.self.now.charged (record { 0 = c.get.result }) c.requires.0.reached c.requires.0.unspent c.requires.1 c.get.ensures c.in_ok-push.ensures.items in
-    record { whole = ended.0; sum = ended.1 }

@@ -1,0 +1,2 @@
+pub mod ImageLines
+pub mod ParameterLines

@@ -1,5 +1,5 @@
 -- A turn that was made is one that the log may have.
-use Rattle.std.proofs.Common.{◌≡◌, ◌≢◌, ℕ, ◌+◌, ◌-◌, ◌<◌, ◌≤◌, min, List, [], ◌∷◌, ◌++◌, true, refl, sym, ap, ◌∙◌, subst, arith, slice_index}
+use Rattle.std.proofs.Common.{◌≡◌, ◌≢◌, ℕ, ◌+◌, ◌-◌, ◌<◌, ◌≤◌, min, List, [], ◌∷◌, ◌++◌, true, refl, sym, ap, ◌∙◌, subst, arith, slice_index, inl}
 use Rattle.nd_mem.specs.Space.{Space, put_from}
 use Rattle.nd_base.specs.declared.numbers.Addr.{Addr}
 use Rattle.nd_base.specs.declared.numbers.Status.{Status}
@@ -70,7 +70,7 @@ leave_logged c log more m n status reached unspent leaves eax is =
 pub spent_ended : (c : Inputs) (s : Session) → IsOpen c s → s.budget ≤ s.charged → HasEnded c s Spent
 spent_ended c s opened over =
     let sum = charged-now c s.log.items _ opened.reached in
-    record { whole = record { run = opened.reached.run; ends = omega (arith, opened.within, opened.budget, sum) }; sum = sum }
+    record { whole = record { run = opened.reached.run; ends = omega (arith, opened.within, opened.budget, sum) }; sum = sum; budget = opened.budget; front = s.log.items; reached = opened.reached; last = inl refl }
 
 abbrev pub entering : Entry
 entering = Enter (record { 0 = 0 }) DriverEntry DRIVER_ENTRY_WORDS

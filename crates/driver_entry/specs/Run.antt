@@ -13,10 +13,9 @@ use Rattle.ia32_step.specs.declared.FaultKind.{FaultKind}
 use Rattle.ia32_step.specs.declared.FaultKind.TheVariants.{Unmapped}
 use Rattle.driver_entry.specs.declared.entries.Entry.{Entry}
 use Rattle.driver_entry.specs.declared.entries.Entry.TheVariants.{Enter, Turn, Leave as Leaving, Fault}
-use Rattle.driver_entry.specs.declared.guest.TheConstants.{DRIVER_ENTRY_WORDS}
 use Rattle.driver_entry.specs.declared.session.Ending.{Ending}
 use Rattle.driver_entry.specs.declared.session.Ending.TheVariants.{Left, Faulting, Spent}
-use Rattle.driver_entry.specs.Guest.{start_space, stack_bytes, stack_pointer, entered_registers}
+use Rattle.driver_entry.specs.Guest.{driver_entry_words, start_space, stack_bytes, stack_pointer, entered_registers}
 
 -- what a run is given: the image, and how many instructions it may take
 pub record Inputs : Type 0 where
@@ -112,7 +111,7 @@ WhileOpen memory Ended P = ⊥
 pub record MeetsEnter (s : State) (context : CtxNo) (words : List ℕ) : Type 0 where
   pub number : context.0 ≡ 0
   pub unentered : s.context ≡ Unentered
-  pub given : words ≡ DRIVER_ENTRY_WORDS
+  pub given : words ≡ driver_entry_words
 
 pub record MeetsTurn (c : Inputs) (s : State) (context : CtxNo) (count : ℕ) : Type 0 where
   pub number : context.0 ≡ 0

@@ -1,6 +1,7 @@
 -- What the program keeps of a run of DriverEntry, as a state of the run's log.
-use Rattle.std.specs.Prelude.{◌≡◌, ◌<◌, ◌≤◌}
+use Rattle.std.specs.Prelude.{◌≡◌, ◌<◌, ◌≤◌, ◌⊎◌, List, [], ◌∷◌, ◌++◌}
 use Rattle.ia32_step.specs.Machine.{Machine}
+use Rattle.driver_entry.specs.declared.entries.Entry.{Entry}
 use Rattle.driver_entry.specs.declared.session.Ending.{Ending}
 use Rattle.driver_entry.specs.declared.session.Session.{Session}
 use Rattle.driver_entry.specs.Run.{Inputs, State, Open, Reaches, IsWhole, machine, charged}
@@ -24,7 +25,12 @@ pub record IsRunning (c : Inputs) (s : Session) : Type 0 where
   pub budget : s.budget ≡ c.budget
   pub unspent : s.charged < c.budget
 
--- the log is a whole run, and what is kept as charged is the sum of its turns
+-- The log is a whole run, and what is kept as charged is the sum of its turns. Registers and memory are those that stood before the log's last
+-- entry where that is a leave or a fault, and else those that the log leaves.
 pub record HasEnded (c : Inputs) (s : Session) (ending : Ending) : Type 0 where
   pub whole : IsWhole c s.log.items ending
   pub sum : s.charged ≡ charged s.log.items
+  pub budget : s.budget ≡ c.budget
+  pub front : List Entry
+  pub reached : Reaches c front (state_of s)
+  pub last : (s.log.items ≡ front) ⊎ ((e : Entry) × (s.log.items ≡ front ++ e ∷ []))

@@ -6,6 +6,10 @@ pub mod StringLemmas
 pub mod ModelLemmas
 pub mod ParamLemmas
 pub mod ListLemmas
+pub mod RepeatLemmas
+pub mod RepeatFolds
+pub mod RepeatLaws
+pub mod SetLaws
 pub mod ParameterLemmas
 pub mod Slices
 pub mod QuoteLoops

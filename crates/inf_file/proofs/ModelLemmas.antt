@@ -1,15 +1,17 @@
 -- Model lines, one after the other.
-use Rattle.std.proofs.Common.{inl, inr, ◌≡◌, ℕ, ◌+◌, ◌<◌, ◌≤◌, List, [], ◌∷◌, length, drop, get_or, filter, Option, None, refl, sym, ap, ◌∙◌, add-one, drop-cons}
+use Rattle.std.proofs.Common.{inl, inr, ◌≡◌, ℕ, ◌+◌, ◌<◌, ◌≤◌, List, [], ◌∷◌, ◌++◌, length, drop, get_or, filter, Option, None, Some, refl, sym, ap, ◌∙◌, add-one, drop-cons}
 use Rattle.std.proofs.Math.ListN.{drop_of_length-le}
-use Rattle.std.specs.List.{fold}
+use Rattle.std.specs.List.{fold, flat_map, filter_map, cons_option}
 use Rattle.std.specs.Option.{option_or}
 use Rattle.std.proofs.lemmas.Bool.{cases_Bool}
-use Rattle.std.proofs.lemmas.List.Sums.{fold-append}
-use Rattle.std.proofs.lemmas.List.Elements.{filter-append}
 use Rattle.std.proofs.lemmas.List.Concat.{flat_map-cons}
-use Rattle.inf_file.specs.Sections.{Line, Section, lines_at_some}
+use Rattle.inf_file.specs.Sections.{Line, Section, lines_at, lines_at_some}
 use Rattle.inf_file.specs.Strings.{Strings}
-use Rattle.inf_file.specs.Models.{decoration_place, decorated_place, models_place, models, has_id, earlier, if_has_id, earliest, model_of}
+use Rattle.inf_file.specs.Repeats.{thinned}
+use Rattle.inf_file.specs.Models.{decoration_place, decorated_place, models_place, has_id, earlier, if_has_id, model_of}
+use Rattle.inf_file.proofs.ListLemmas.{fold-flat}
+use Rattle.inf_file.proofs.RepeatFolds.{fold-thinned}
+use Rattle.inf_file.proofs.RepeatLaws.{if_has_id-once, if_has_id-still}
 
 pub decorated-step : (s : Strings) (ss : List Section) (name : List ℕ) (ds : List (List ℕ)) (i : ℕ) (d : List ℕ) → i < length ds → d ≡ get_or ds i d
     → decorated_place s ss name (drop i ds) ≡ option_or (decoration_place s ss name d) (decorated_place s ss name (drop (i + 1) ds))
@@ -28,16 +30,20 @@ picked s id best (l ∷ ls) = elim (cases_Bool (has_id s id l)) [
   | inr off ↦ rw off (picked s id best ls)
 ]
 
-over : (s : Strings) (ss : List Section) (id : List ℕ) (best : Option Line) (makers : List Line) → fold (earliest s ss id) best makers ≡ fold earlier best (filter (has_id s id) (models s ss makers))
-unfolding earliest
-over s ss id best [] = refl
-over s ss id best (m ∷ ms) =
-    let one = lines_at_some ss (models_place s ss m) in
-    over s ss id (fold (if_has_id s id) best one) ms
-    ∙ ap (λ (b : Option Line). fold earlier b (filter (has_id s id) (models s ss ms))) (picked s id best one)
-    ∙ sym (fold-append earlier best (filter (has_id s id) one) (filter (has_id s id) (models s ss ms)))
-    ∙ ap (fold earlier best) (sym (filter-append (has_id s id) one (models s ss ms)) ∙ ap (filter (has_id s id)) (sym (flat_map-cons (λ maker. lines_at_some ss (models_place s ss maker)) m ms)))
+one_some : (ss : List Section) (o : Option ℕ) (rest : List ℕ) → lines_at_some ss o ++ flat_map (lines_at ss) rest ≡ flat_map (lines_at ss) (cons_option o rest)
+one_some ss None rest = refl
+one_some ss (Some p) rest = sym (flat_map-cons (lines_at ss) p rest)
 
-pub model_of-fold : (s : Strings) (ss : List Section) (makers : List Line) (id : List ℕ) → fold (earliest s ss id) None makers ≡ model_of s ss makers id
+flat_some : {A : Type 0} (ss : List Section) (h : A → Option ℕ) (ms : List A) → flat_map (λ m. lines_at_some ss (h m)) ms ≡ flat_map (lines_at ss) (filter_map h ms)
+flat_some ss h [] = refl
+flat_some ss h (m ∷ ms) = flat_map-cons (λ n. lines_at_some ss (h n)) m ms ∙ ap (λ (rest : List Line). lines_at_some ss (h m) ++ rest) (flat_some ss h ms) ∙ one_some ss (h m) (filter_map h ms)
+
+pub model_of-thinned : (s : Strings) (ss : List Section) (makers : List Line) (id : List ℕ)
+    → fold (λ best place. fold (if_has_id s id) best (lines_at ss place)) None (thinned [] (filter_map (models_place s ss) makers)) ≡ model_of s ss makers id
 unfolding model_of
-model_of-fold s ss makers id = over s ss id None makers
+model_of-thinned s ss makers id =
+    let places = filter_map (models_place s ss) makers in
+    fold-flat (if_has_id s id) (lines_at ss) None (thinned [] places)
+    ∙ fold-thinned (if_has_id s id) (if_has_id-once s id) (if_has_id-still s id) (lines_at ss) None places
+    ∙ picked s id None (flat_map (lines_at ss) places)
+    ∙ ap (λ (ls : List Line). fold earlier None (filter (has_id s id) ls)) (sym (flat_some ss (models_place s ss) makers))

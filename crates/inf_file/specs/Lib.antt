@@ -5,6 +5,7 @@ pub mod Numbers
 pub mod Models
 pub mod Rows
 pub mod Parameters
+pub mod Repeats
 pub mod Outcome
 pub mod Characters
 pub mod Quotes

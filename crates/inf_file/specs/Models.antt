@@ -66,10 +66,6 @@ earlier (Some best) line = if nat_lt line.number best.number then Some line else
 unfoldable pub if_has_id : Strings → List ℕ → Option Line → Line → Option Line
 if_has_id strings id best line = if has_id strings id line then earlier best line else best
 
--- the same over the model lines of a manufacturer
-unfoldable pub earliest : Strings → List Section → List ℕ → Option Line → Line → Option Line
-earliest strings sections id best maker = fold (if_has_id strings id) best (lines_at_some sections (models_place strings sections maker))
-
 -- the first line of the file among the model lines that have the id
 unfoldable pub model_of : Strings → List Section → List Line → List ℕ → Option Line
 model_of strings sections makers id = fold earlier None (filter (has_id strings id) (models strings sections makers))

@@ -14,6 +14,7 @@ mod parameters;
 mod quotes;
 mod reading;
 mod refusal;
+mod repeats;
 mod row;
 mod sections;
 mod strings;

@@ -1,14 +1,15 @@
 //! How a hardware id leads to an install section.
 
-ghost use Rattle.std.specs.Prelude.{codes, ◌≡◌, ◌++◌, drop, take, filter, length, IfOk};
-ghost use Rattle.std.specs.List.{fold, list_any};
+ghost use Rattle.std.specs.Prelude.{codes, ◌≡◌, ◌++◌, drop, take, filter, length, None, IfOk};
+ghost use Rattle.std.specs.List.{fold, filter_map, list_any};
 ghost use Rattle.std.specs.Option.{option_copied};
 ghost use Rattle.inf_file.specs.Keyed.{string_in};
-ghost use Rattle.inf_file.specs.Sections.{is_same, has_key, value_at, place_named, lines_at_some};
+ghost use Rattle.inf_file.specs.Sections.{is_same, has_key, value_at, place_named, lines_at};
 ghost use Rattle.inf_file.specs.Strings.{replaced};
-ghost use Rattle.inf_file.specs.Models.{is_good_signature, is_signed_by, is_signed, dotted, usual_names, first_place, is_nt_x86, decoration_place, decorated_place, models_place, has_id, id_among, earlier, if_has_id, earliest, model_of, install_place};
+ghost use Rattle.inf_file.specs.Models.{is_good_signature, is_signed_by, is_signed, dotted, usual_names, first_place, is_nt_x86, decoration_place, decorated_place, models_place, has_id, id_among, earlier, if_has_id, model_of, install_place};
 
 use crate::fold::{is_same, is_word};
+use crate::repeats::{push_place, thinned};
 use crate::sections::{Inf, Line};
 use crate::strings::Strings;
 use nd_base::{OutOfMemory, Wide};
@@ -218,22 +219,38 @@ fn earliest<'a>(
     Ok(best)
 }
 
-/// The earliest line with the hardware id that a manufacturer leads to.
-#[tactic(auto, unfolding(crate::specs::Models::earliest))]
-fn earliest_of_maker<'a>(
+/// The earliest line with the hardware id in the sections at these places.
+fn earliest_at<'a>(
     inf: &'a Inf,
     alloc: Global,
     strings: &Strings,
     id: &[u16],
-    best: Option<&'a Line>,
-    maker: &Line,
+    places: &[usize],
 ) -> Result<Option<&'a Line>, OutOfMemory>
-    ensures { IfOk result (λ l. option_copied l ≡ earliest (string_in strings.now) inf.now id.now (option_copied best.entry) maker.now) }
+    ensures { IfOk result (λ l. option_copied l ≡ fold (λ best place. fold (if_has_id (string_in strings.now) id.now) best (lines_at inf.now place)) None places.now) }
 {
-    match models_place(inf, alloc, strings, maker)? {
-        Some(place) => earliest(alloc, strings, id, best, inf.lines_at(place)),
-        None => Ok(best),
+    let mut best: Option<&Line> = None;
+    for place in places {
+        best = earliest(alloc, strings, id, best, inf.lines_at(*place))?;
     }
+    Ok(best)
+}
+
+/// The places of the models sections that manufacturers' lines lead to, in order.
+fn models_places(
+    inf: &Inf,
+    alloc: Global,
+    strings: &Strings,
+    makers: &[Line],
+) -> Result<Vec<usize>, OutOfMemory>
+    ensures { IfOk result (λ v. v.items ≡ filter_map (models_place (string_in strings.now) inf.now) makers.now) }
+{
+    let mut places = Vec::new(alloc);
+    for maker in makers {
+        let place = models_place(inf, alloc, strings, maker)?;
+        push_place(&mut places, place)?;
+    }
+    Ok(places)
 }
 
 /// The first line of the file among the model lines with the hardware id.
@@ -246,11 +263,9 @@ pub fn model_of<'a>(
 ) -> Result<Option<&'a Line>, OutOfMemory>
     ensures { IfOk result (λ l. option_copied l ≡ model_of (string_in strings.now) inf.now makers.now id.now) }
 {
-    let mut best: Option<&Line> = None;
-    for maker in makers {
-        best = earliest_of_maker(inf, alloc, strings, id, best, maker)?;
-    }
-    Ok(best)
+    let places = models_places(inf, alloc, strings, makers)?;
+    let places = thinned(alloc, places.as_slice())?;
+    earliest_at(inf, alloc, strings, id, places.as_slice())
 }
 
 /// The place of the install section that a model line names.

@@ -2,15 +2,44 @@
 
 ghost use Rattle.std.specs.Prelude.{◌≡◌};
 ghost use Rattle.inf_file.specs.Keyed.{string_in};
-ghost use Rattle.inf_file.specs.Parameters.{of_lines, of_strings, parameters_of, Answers};
+ghost use Rattle.inf_file.specs.Strings.{line_lacks};
+ghost use Rattle.inf_file.specs.Rows.{is_bad, params_of};
+ghost use Rattle.inf_file.specs.Parameters.{directives_of, reg_lines, least_number, answer, lines_read, of_lines, of_strings, parameters_of, Answers};
 
 use crate::gather::params_of;
 use crate::models::{install_place, is_signed, model_of};
 use crate::param::{Param, ParamRefusal};
 use crate::reading::{first_bad, first_lacking, reg_places};
+use crate::repeats::thinned;
 use crate::sections::{Inf, Line};
 use crate::strings::Strings;
 use std::alloc::Global;
+
+/// The parameters of the rows in the sections at these places, or the first line that is wrong.
+fn of_places(
+    inf: &Inf,
+    alloc: Global,
+    strings: &Strings,
+    makers: &[Line],
+    model: &Line,
+    lines: &[Line],
+    places: &[usize],
+) -> Result<Vec<Param>, ParamRefusal>
+    ensures { let s = string_in strings.now in
+        let rows = reg_lines inf.now places.now in
+        Answers (λ v. v.items) result (answer (least_number (line_lacks s) (lines_read makers.now model.now (directives_of lines.now) rows)) (least_number (is_bad s) rows) (params_of s rows)) }
+{
+    match first_lacking(inf, alloc, strings, makers, model, lines, places)? {
+        Some(number) => return Err(ParamRefusal::NoString(number)),
+        None => {}
+    }
+    match first_bad(inf, alloc, strings, places)? {
+        Some(number) => return Err(ParamRefusal::BadValue(number)),
+        None => {}
+    }
+    let params = params_of(inf, alloc, strings, places)?;
+    Ok(params)
+}
 
 /// The parameters of an install section's lines, or the first line that is wrong.
 fn of_lines(
@@ -24,17 +53,8 @@ fn of_lines(
     ensures { Answers (λ v. v.items) result (of_lines (string_in strings.now) inf.now makers.now model.now lines.now) }
 {
     let places = reg_places(inf, alloc, strings, lines)?;
-    let places = places.as_slice();
-    match first_lacking(inf, alloc, strings, makers, model, lines, places)? {
-        Some(number) => return Err(ParamRefusal::NoString(number)),
-        None => {}
-    }
-    match first_bad(inf, alloc, strings, places)? {
-        Some(number) => return Err(ParamRefusal::BadValue(number)),
-        None => {}
-    }
-    let params = params_of(inf, alloc, strings, places)?;
-    Ok(params)
+    let places = thinned(alloc, places.as_slice())?;
+    of_places(inf, alloc, strings, makers, model, lines, places.as_slice())
 }
 
 /// The parameters of a hardware id, where the signature is good.

@@ -1,13 +1,14 @@
 //! The lines that are read, and the first that is wrong.
 
 ghost use Rattle.std.specs.Prelude.{codes, ◌≡◌, ◌++◌, [], filter, if◌then◌else◌, IfOk, OnOk};
-ghost use Rattle.std.specs.List.{fold, cons_option, flat_map};
+ghost use Rattle.std.specs.List.{fold, flat_map};
 ghost use Rattle.inf_file.specs.Keyed.{string_in};
 ghost use Rattle.inf_file.specs.Sections.{has_key, place_named, lines_at};
 ghost use Rattle.inf_file.specs.Strings.{replaced, line_lacks};
 ghost use Rattle.inf_file.specs.Rows.{is_bad};
 ghost use Rattle.inf_file.specs.Parameters.{named_places, is_directive, directives_of, reg_places, reg_lines, lower, least_number, lines_read};
 
+use crate::repeats::push_place;
 use crate::row::is_bad;
 use crate::sections::{Inf, Line};
 use crate::strings::Strings;
@@ -32,19 +33,6 @@ fn named_place(
 {
     let name = strings.replaced(alloc, value.as_slice())?;
     inf.place(alloc, name.as_slice())
-}
-
-/// Puts a place behind the last one, if there is one.
-fn push_place(places: &mut Vec<usize>, place: Option<usize>) -> Result<(), OutOfMemory>
-    ensures { OnOk result (places.new.items ≡ places.old.items ++ cons_option place []) }
-{
-    match place {
-        Some(place) => {
-            places.push(place)?;
-            Ok(())
-        }
-        None => Ok(()),
-    }
 }
 
 /// Puts the places of the sections that values name behind the last one.

@@ -74,24 +74,24 @@ last_alone before after line last of_last = λ first is.
     let b = of_last first is in
     (0, b.0, zero-le, b.1, b.2 ∙ ap (λ xs. Some (xs ++ take b.0 last)) (sym (append-nil first)))
 
-pub off_by_memory : (name line : List ℕ) (before mid after : Option (List ℕ)) → AddsFront before mid line → AddsFront mid after (codes "memory\n") → BreaksOff name line before after
-off_by_memory name line before mid after of_line of_last = record { last = codes "memory\n"; is_last = inr (inr refl); fronts = fronts_of before mid after line _ of_line of_last }
+pub off_by_memory : (name line : List ℕ) (status : ℕ) (before mid after : Option (List ℕ)) → AddsFront before mid line → AddsFront mid after (codes "memory\n") → status ≡ 10 → BreaksOff name line status before after
+off_by_memory name line status before mid after of_line of_last ten = record { last = codes "memory\n"; is_last = inr (ten, inl refl); fronts = fronts_of before mid after line _ of_line of_last }
 
-pub off_by_print : (name line : List ℕ) (before mid after : Option (List ℕ)) → AddsFront before mid line → AddsFront mid after (codes "write -\n") → BreaksOff name line before after
-off_by_print name line before mid after of_line of_last = record { last = write_line (codes "-"); is_last = inr (inl refl); fronts = fronts_of before mid after line _ of_line of_last }
+pub off_by_print : (name line : List ℕ) (status : ℕ) (before mid after : Option (List ℕ)) → AddsFront before mid line → AddsFront mid after (codes "write -\n") → status ≡ 4 → BreaksOff name line status before after
+off_by_print name line status before mid after of_line of_last four = record { last = write_line (codes "-"); is_last = inl (four, inr refl); fronts = fronts_of before mid after line _ of_line of_last }
 
-pub off_at_once : (name line : List ℕ) (before after : Option (List ℕ)) → AddsFront before after (codes "memory\n") → BreaksOff name line before after
-off_at_once name line before after of_last = record { last = codes "memory\n"; is_last = inr (inr refl); fronts = last_alone before after line _ of_last }
+pub off_at_once : (name line : List ℕ) (status : ℕ) (before after : Option (List ℕ)) → AddsFront before after (codes "memory\n") → status ≡ 10 → BreaksOff name line status before after
+off_at_once name line status before after of_last ten = record { last = codes "memory\n"; is_last = inr (ten, inl refl); fronts = last_alone before after line _ of_last }
 
-pub off_by_name : (name line : List ℕ) (before after : Option (List ℕ)) → AddsFront before after (write_line name) → BreaksOff name line before after
-off_by_name name line before after of_last = record { last = write_line name; is_last = inl refl; fronts = last_alone before after line _ of_last }
+pub off_by_name : (name line : List ℕ) (status : ℕ) (before after : Option (List ℕ)) → AddsFront before after (write_line name) → (status ≡ 4) ⊎ (status ≡ 10) → BreaksOff name line status before after
+off_by_name name line status before after of_last is = record { last = write_line name; is_last = elim is [ inl four ↦ inl (four, inl refl) | inr ten ↦ inr (ten, inr refl) ]; fronts = last_alone before after line _ of_last }
 
 -- a text that is known by another name
-pub off_same : (name : List ℕ) (line text : List ℕ) (before after : Option (List ℕ)) → text ≡ line → BreaksOff name text before after → BreaksOff name line before after
-off_same name line text before after same off = subst (λ (l : List ℕ). BreaksOff name l before after) same off
+pub off_same : (name : List ℕ) (line text : List ℕ) (status : ℕ) (before after : Option (List ℕ)) → text ≡ line → BreaksOff name text status before after → BreaksOff name line status before after
+off_same name line text status before after same off = subst (λ (l : List ℕ). BreaksOff name l status before after) same off
 
-pub off_by_text : (name line text : List ℕ) (before after : Option (List ℕ)) → text ≡ write_line name → AddsFront before after text → BreaksOff name line before after
-off_by_text name line text before after same front = off_by_name name line before after (subst (λ (l : List ℕ). AddsFront before after l) same front)
+pub off_by_text : (name line text : List ℕ) (status : ℕ) (before after : Option (List ℕ)) → text ≡ write_line name → AddsFront before after text → (status ≡ 4) ⊎ (status ≡ 10) → BreaksOff name line status before after
+off_by_text name line text status before after same front is = off_by_name name line status before after (subst (λ (l : List ℕ). AddsFront before after l) same front) is
 
 pub front_same : (before after : Option (List ℕ)) (text line : List ℕ) → text ≡ line → AddsFront before after text → AddsFront before after line
 front_same before after text line same front = subst (λ (l : List ℕ). AddsFront before after l) same front

@@ -1,5 +1,5 @@
 -- What the program prints of a run of DriverEntry, and of files that are not read or written. (The project's own texts: docs/PRINTED.md.)
-use Rattle.std.specs.Prelude.{ℕ, List, [], ◌∷◌, codes}
+use Rattle.std.specs.Prelude.{ℕ, List, [], ◌∷◌, ◌++◌, codes}
 use Rattle.std.specs.Fmt.{decimal}
 use Rattle.nd_base.specs.Text.{line, hex_word}
 use Rattle.driver_entry.specs.declared.session.Ending.{Ending}
@@ -20,3 +20,15 @@ read_line name = line (codes "read" ∷ name ∷ [])
 
 abbrev pub write_line : List ℕ → List ℕ
 write_line name = line (codes "write" ∷ name ∷ [])
+
+-- what `--help` prints: a line for each form of words
+abbrev pub help_text : List ℕ
+help_text = codes "run0 SYS LOG     run the DriverEntry of the driver image SYS alone, and write its log to LOG\n"
+    ++ codes "show-image SYS   show the headers, sections, imports and relocations of the driver image SYS\n"
+    ++ codes "show-inf INF ID  show the parameters that the INF file INF gives the hardware id ID\n"
+    ++ codes "--help           list the commands\n"
+    ++ codes "--version        print the version\n"
+
+-- what `--version` prints: the program and its version
+abbrev pub version_line : List ℕ
+version_line = line (codes "hedzvaki" ∷ codes "0.1.0" ∷ [])

@@ -54,6 +54,15 @@ pub record BrokeOff (m : Kept) (sys log : List ℕ) (kept : Option Kept) : Type 
   pub within : count ≤ length (text_of entries)
   pub file : kept ≡ Some (insert m log (take count (text_of entries)))
 
+-- LOG holds the text of a whole run of the image that SYS held, and no other file changed
+pub record LogsWhole (m : Kept) (sys log : List ℕ) (kept : Option Kept) : Type 0 where
+  pub image : ImageParts
+  pub read : judged (bytes_at m sys) ≡ Ok image
+  pub entries : List Entry
+  pub ending : Ending
+  pub whole : IsWhole (usual image) entries ending
+  pub file : kept ≡ Some (insert m log (text_of entries))
+
 abbrev pub LeavesFront : Kept → List ℕ → List ℕ → Option Kept → Type 0
 LeavesFront m sys log kept = (kept ≡ Some m) ⊎ BrokeOff m sys log kept
 
@@ -62,11 +71,15 @@ abbrev pub AddsFronts : Option (List ℕ) → Option (List ℕ) → List ℕ →
 AddsFronts before after line last = (first : List ℕ) → before ≡ Some first
     → (n : ℕ) × (k : ℕ) × (n ≤ length line) × (k ≤ length last) × (after ≡ Some (first ++ take n line ++ take k last))
 
--- What is printed where a write failed or memory is wanted: a front of the command's line, and then a front of a last line, which names what was
--- not written (a file, or `-` for what is printed itself) or says that memory is wanted.
-pub record BreaksOff (name line : List ℕ) (before after : Option (List ℕ)) : Type 0 where
+-- The last line: at 4 it names what was not written, a file or `-` for what is printed itself; at 10 it says that memory is wanted, or names the
+-- file that was not written, where memory is wanted while that is printed.
+abbrev pub IsLast : List ℕ → ℕ → List ℕ → Type 0
+IsLast name status last = ((status ≡ 4) × ((last ≡ write_line name) ⊎ (last ≡ write_line (codes "-")))) ⊎ ((status ≡ 10) × ((last ≡ codes "memory\n") ⊎ (last ≡ write_line name)))
+
+-- what is printed where a write failed or memory is wanted: a front of the command's line, and then a front of a last line
+pub record BreaksOff (name line : List ℕ) (status : ℕ) (before after : Option (List ℕ)) : Type 0 where
   pub last : List ℕ
-  pub is_last : (last ≡ write_line name) ⊎ (last ≡ write_line (codes "-")) ⊎ (last ≡ codes "memory\n")
+  pub is_last : IsLast name status last
   pub fronts : AddsFronts before after line last
 
 -- the line of an image that `run0` refuses
@@ -98,7 +111,10 @@ pub record EndsZero (sys log : List ℕ) (status : ℕ) (kept kept' : Option Kep
   pub unwritten_log : status ≡ 4 → (Rose faults faults' → ⊥) → Adds before after (write_line log)
   -- 4 and 10: what stands in the files, and what was printed
   pub broke_off : (status ≡ 4) ⊎ (status ≡ 10) → (m : Kept) → kept ≡ Some m → LeavesFront m sys log kept'
-  pub closing : (status ≡ 4) ⊎ (status ≡ 10) → (line : List ℕ) × IsLineOfZero sys line × BreaksOff log line before after
+  pub closing : (status ≡ 4) ⊎ (status ≡ 10) → (line : List ℕ) × IsLineOfZero sys line × BreaksOff log line status before after
+  -- where no create or append failed, 4 names `-`, and LOG, if it was created, holds the text of a whole run
+  pub unprinted : status ≡ 4 → (Rose writes writes' → ⊥) → (line : List ℕ) × IsLineOfZero sys line × BreaksOff (codes "-") line status before after
+  pub whole_log : status ≡ 4 → (Rose writes writes' → ⊥) → (m : Kept) → kept ≡ Some m → (kept' ≡ Some m) ⊎ LogsWhole m sys log kept'
   -- no other status, but 10 for want of memory
   pub others : (status < 2) ⊎ (status ≡ 3) ⊎ (status ≡ 4) ⊎ (status ≡ 5) ⊎ (status ≡ 10)
 
@@ -108,7 +124,7 @@ pub record EndsWith (wanted : ℕ) (text : List ℕ) (status : ℕ) (kept kept' 
   pub same : kept' ≡ kept
   pub printed : status ≡ wanted → Adds before after text
   pub unwritten : status ≡ 4 → Rose faults faults'
-  pub closing : (status ≡ 4) ⊎ (status ≡ 10) → BreaksOff (codes "-") text before after
+  pub closing : (status ≡ 4) ⊎ (status ≡ 10) → BreaksOff (codes "-") text status before after
 
 -- What a command leaves that shows the file of a name: no file changes. With 0 or the status of a refusal a text was printed: status and text are
 -- the answer to the file's bytes, where the files tell them.
@@ -120,7 +136,7 @@ pub record EndsShowing (answered : List ℕ → Answer) (refusal : ℕ) (name : 
   -- 4: only where a write failed
   pub unwritten : status ≡ 4 → Rose faults faults'
   -- 4 and 10: a front of what was to be printed, and then of a last line
-  pub closing : (status ≡ 4) ⊎ (status ≡ 10) → (text : List ℕ) × BreaksOff (codes "-") text before after
+  pub closing : (status ≡ 4) ⊎ (status ≡ 10) → (text : List ℕ) × BreaksOff (codes "-") text status before after
       × ((text ≡ read_line name) ⊎ ((m : Kept) → kept ≡ Some m → text ≡ (answered (bytes_at m name)).text))
   -- no other status, but 10 for want of memory
   pub others : (status ≡ 0) ⊎ (status ≡ 3) ⊎ (status ≡ 4) ⊎ (status ≡ refusal) ⊎ (status ≡ 10)

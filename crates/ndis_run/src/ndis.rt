@@ -3,9 +3,10 @@
 ghost use Rattle.std.specs.Prelude.{◌≡◌, ℕ, List, IsTrue, string_bytes, map, codes};
 ghost use Rattle.ndis_run.specs.Shown.{shown_image, shown_inf};
 ghost use Rattle.ndis_run.specs.Tool.{EndsWith, EndsZero, EndsShowing};
+ghost use Rattle.ndis_run.specs.Printed.{help_text, version_line};
 ghost use Rattle.ndis_run.specs.Words.{IsForm, IsHelp, IsInput, IsOutput, IsRunZero, IsShowImage, IsShowInf, IsVersion};
 
-use crate::tool::{HELP, VERSION, tool_main};
+use crate::tool::tool_main;
 use crate::words::Command;
 use nd_base::{Files, Gate, Sink};
 use std::alloc::Global;
@@ -38,9 +39,9 @@ pub fn ndis_main<R: Threads + Wait + Sync, F: Files, O: Sink, G: Gate + Sync>(
     ensures no_form { ((command : Command) → IsForm command (map string_bytes words.now) → ⊥)
         → EndsWith 2 (codes "words\n") result (F.kept files.old) (F.kept files.new) (O.written out.old) (O.written out.new) (O.faults out.old) (O.faults out.new) }
     ensures help { IsHelp (map string_bytes words.now)
-        → EndsWith 0 HELP.now result (F.kept files.old) (F.kept files.new) (O.written out.old) (O.written out.new) (O.faults out.old) (O.faults out.new) }
+        → EndsWith 0 help_text result (F.kept files.old) (F.kept files.new) (O.written out.old) (O.written out.new) (O.faults out.old) (O.faults out.new) }
     ensures version { IsVersion (map string_bytes words.now)
-        → EndsWith 0 VERSION.now result (F.kept files.old) (F.kept files.new) (O.written out.old) (O.written out.new) (O.faults out.old) (O.faults out.new) }
+        → EndsWith 0 version_line result (F.kept files.old) (F.kept files.new) (O.written out.old) (O.written out.new) (O.faults out.old) (O.faults out.new) }
 {
     tool_main(alloc, words, files, out)
 }

@@ -3,6 +3,7 @@
 ghost use Rattle.std.specs.Prelude.{◌≡◌, ℕ, IsTrue, string_bytes, codes, map, List};
 ghost use Rattle.ndis_run.specs.Shown.{shown_image, shown_inf};
 ghost use Rattle.ndis_run.specs.Tool.{EndsWith, EndsZero, EndsShowing};
+ghost use Rattle.ndis_run.specs.Printed.{help_text, version_line};
 ghost use Rattle.ndis_run.specs.Words.{IsForm, IsHelp, IsInput, IsOutput, IsRunZero, IsShowImage, IsShowInf, IsVersion};
 
 use crate::printing::{IMAGE_REFUSED, tell, tell_end, tell_memory, tell_unread, tell_unwritten};
@@ -100,9 +101,9 @@ pub fn tool_main<F: Files, O: Sink>(
     ensures no_form { ((command : Command) → IsForm command (map string_bytes words.now) → ⊥)
         → EndsWith 2 (codes "words\n") result (F.kept files.old) (F.kept files.new) (O.written out.old) (O.written out.new) (O.faults out.old) (O.faults out.new) }
     ensures help { IsHelp (map string_bytes words.now)
-        → EndsWith 0 HELP.now result (F.kept files.old) (F.kept files.new) (O.written out.old) (O.written out.new) (O.faults out.old) (O.faults out.new) }
+        → EndsWith 0 help_text result (F.kept files.old) (F.kept files.new) (O.written out.old) (O.written out.new) (O.faults out.old) (O.faults out.new) }
     ensures version { IsVersion (map string_bytes words.now)
-        → EndsWith 0 VERSION.now result (F.kept files.old) (F.kept files.new) (O.written out.old) (O.written out.new) (O.faults out.old) (O.faults out.new) }
+        → EndsWith 0 version_line result (F.kept files.old) (F.kept files.new) (O.written out.old) (O.written out.new) (O.faults out.old) (O.faults out.new) }
 {
     match command_of(words) {
         Some(Command::RunZero) => {

@@ -1,4 +1,5 @@
 -- The parts of an image as lists.
+use Rattle.std.specs.Prelude.{Result, Ok, Err, OnErr}
 use Rattle.std.proofs.Common.{◌≡◌, ℕ, suc, zero, ◌+◌, ◌<◌, ◌≤◌, List, [], ◌∷◌, length, get_or, map, None, Some, Option, inl, inr, refl, sym, ap, ◌∙◌, subst, arith, All, Vec, Global}
 use Rattle.std.proofs.lemmas.List.{length-map, get_or-map}
 use Rattle.std.proofs.lemmas.Bool.{cases_lt}
@@ -87,3 +88,8 @@ still_free old new base image (part ∷ parts) laid added free =
     let behind : image.header_size ≤ part.section.rva = here.behind_headers (omega arith) in
     added x ∙ ap (either_of (old x)) (range_cell-out base image.header_size image.headers read_only x (λ _. omega arith)) ∙ either_none_right (old x)) in
     rw (same, both.0) (still_free old new base image parts (All-tail (IsSectionLaidOut image) part parts laid) added both.1)
+
+-- ---- a refusal that leaves what holds anyway
+pub on_err_from : {T E P : Type 0} (r : Result T E) → P → OnErr r P
+on_err_from (Ok x) p = tt
+on_err_from (Err e) p = p

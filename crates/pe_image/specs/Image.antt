@@ -103,6 +103,10 @@ IsOutside at a = at ≤ a → at + 4 ≤ a
 abbrev pub AreWordsApart : ℕ → ℕ → Type 0
 AreWordsApart first second = (first + 4 ≤ second) ⊎ (second + 4 ≤ first)
 
+-- each byte that is mapped stays so, with its value and its rights
+abbrev pub Keeps : (old new : Cells) → Type 0
+Keeps old new = (a : ℕ) (cell : Cell) → old a ≡ Some cell → new a ≡ Some cell
+
 -- ---- whether it can be mapped
 abbrev pub sections_refusal : Cells → (base : ℕ) → List Section → Option RegionRefusal
 sections_refusal cells base [] = None

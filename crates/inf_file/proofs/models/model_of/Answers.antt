@@ -1,13 +1,21 @@
-use Rattle.std.proofs.Common.{None, List, ap, ◌∙◌, arith}
-use Rattle.std.specs.List.{fold}
-use Rattle.std.proofs.lemmas.List.{take_all}
+use Rattle.std.proofs.Common.{[], None, List, Option, ℕ, ap, ◌∙◌, ◌≡◌}
+use Rattle.std.specs.List.{fold, filter_map}
+use Rattle.std.specs.Option.{option_copied}
+use Rattle.std.proofs.lemmas.Result.{IfOk-weaker}
 use Rattle.inf_file.specs.Keyed.{string_in}
-use Rattle.inf_file.specs.Sections.{Line}
-use Rattle.inf_file.specs.Models.{earliest}
-use Rattle.inf_file.proofs.ModelLemmas.{model_of-fold}
+use Rattle.inf_file.specs.Sections.{Line, lines_at}
+use Rattle.inf_file.specs.Repeats.{thinned}
+use Rattle.inf_file.specs.Models.{models_place, if_has_id, model_of}
+use Rattle.inf_file.proofs.ModelLemmas.{model_of-thinned}
 use Rattle.inf_file.proofs.models.model_of.Goals as goal
 
 pub returns : goal.returns
 returns c =
-    c.loop-maker.invariant ∙ ap (λ (ms : List Line). fold (earliest (string_in c.args.strings.now) c.args.inf.now c.args.id.now) None ms) (take_all _ c.args.makers.now (omega arith))
-    ∙ model_of-fold (string_in c.args.strings.now) c.args.inf.now c.args.makers.now c.args.id.now
+    let s = string_in c.args.strings.now in
+    let ss = c.args.inf.now in
+    let over = λ (places : List ℕ). fold (λ (best : Option Line) (place : ℕ). fold (if_has_id s c.args.id.now) best (lines_at ss place)) None places in
+    let places : c.as_slice-2.result.now ≡ thinned [] (filter_map (models_place s ss) c.args.makers.now) =
+    c.as_slice-2.ensures.value ∙ c.in_ok-places-2.ensures ∙ ap (thinned []) (c.as_slice.ensures.value ∙ c.in_ok-places.ensures) in
+    IfOk-weaker c.earliest_at.result (λ l. option_copied l ≡ over c.as_slice-2.result.now) (λ l. option_copied l ≡ model_of s ss c.args.makers.now c.args.id.now)
+    (λ l e. e ∙ ap over places ∙ model_of-thinned s ss c.args.makers.now c.args.id.now)
+    c.earliest_at.ensures

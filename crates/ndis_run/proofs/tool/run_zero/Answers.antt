@@ -1,4 +1,4 @@
-use Rattle.std.proofs.Common.{◌++◌, Some, ap, ◌∙◌, inr}
+use Rattle.std.proofs.Common.{◌++◌, Some, ap, ◌∙◌, inr, codes}
 use Rattle.std.specs.FinMap.{insert}
 use Rattle.std.proofs.Common.{◌≡◌, inl, refl, rules, length, sym, arith}
 use Rattle.driver_entry.specs.Entries.{text_of}
@@ -36,6 +36,8 @@ returns-in-Ok g c =
         file = f.3 ∙ ap (λ text. Some (insert m c.args.log.now text)) (f.2.is_text ∙ sym (whole_front (text_of f.2.entries)));
       });
       closing = λ off. (driver_entry_line ending c.in-Ok.finished.charged, inl (ending, c.in-Ok.finished.charged, refl), c.tell_end.ensures.closing c.args.log.now off);
+      unprinted = λ e none. (driver_entry_line ending c.in-Ok.finished.charged, inl (ending, c.in-Ok.finished.charged, refl), c.tell_end.ensures.closing (codes "-") (inl e));
+      whole_log = λ e none m is. let f = c.in-Ok.ensures.ran m is in inr (record { image = f.0; read = f.1; entries = f.2.entries; ending = ending; whole = f.2.whole; file = f.3 ∙ ap (λ text. Some (insert m c.args.log.now text)) f.2.is_text });
       others = others_of _ _ known small;
     }
 
@@ -47,7 +49,9 @@ returns-in-Err-Memory g c = record {
   unwritten = search rules;
   unwritten_log = λ e none. let status = c.tell_memory.ensures.status in absurd (omega arith);
   broke_off = λ _ m is. c.in-Err-Memory.ensures.broke_off m is;
-  closing = λ off. (read_line c.args.sys.now, inr (inl refl), off_at_once c.args.log.now _ _ _ c.tell_memory.ensures.front);
+  closing = λ off. (read_line c.args.sys.now, inr (inl refl), off_at_once c.args.log.now _ _ _ _ c.tell_memory.ensures.front c.tell_memory.ensures.status);
+  unprinted = λ e none. let status = c.tell_memory.ensures.status in absurd (omega arith);
+  whole_log = λ e none m is. let status = c.tell_memory.ensures.status in absurd (omega arith);
   others = search rules;
 }
 
@@ -60,6 +64,8 @@ returns-in-Err-Unread g c = record {
   unwritten_log = λ e none. absurd (none (c.tell_unread.ensures.untold e));
   broke_off = λ _ m is. c.in-Err-Unread.ensures.broke_off m is;
   closing = λ off. (read_line c.args.sys.now, inr (inl refl), c.tell_unread.ensures.closing c.args.log.now off);
+  unprinted = λ e none. (read_line c.args.sys.now, inr (inl refl), c.tell_unread.ensures.closing (codes "-") (inl e));
+  whole_log = λ e none m is. inl ((c.in-Err-Unread.ensures.unread c.in-Err-Unread.field-0-is).1 ∙ is);
   others = search rules;
 }
 
@@ -74,7 +80,9 @@ returns-in-Err-Refused g c =
       unwritten = search rules;
       unwritten_log = λ e none. absurd (none (c.tell.ensures.untold e));
       broke_off = λ _ m is. c.in-Err-Refused.ensures.broke_off m is;
-      closing = λ off. (c.in-Err-Refused.line, inr (inr facts.1), off_same c.args.log.now _ _ _ _ text (c.tell.ensures.closing c.args.log.now off));
+      closing = λ off. (c.in-Err-Refused.line, inr (inr facts.1), off_same c.args.log.now _ _ _ _ _ text (c.tell.ensures.closing c.args.log.now off));
+      unprinted = λ e none. (c.in-Err-Refused.line, inr (inr facts.1), off_same (codes "-") _ _ _ _ _ text (c.tell.ensures.closing (codes "-") (inl e)));
+      whole_log = λ e none m is. inl (facts.0 ∙ is);
       others = search rules;
     }
 
@@ -87,5 +95,7 @@ returns-in-Err-Unwritten g c = record {
   unwritten_log = λ e none. c.tell_unwritten.ensures.told e none;
   broke_off = λ _ m is. c.in-Err-Unwritten.ensures.broke_off m is;
   closing = λ off. (read_line c.args.sys.now, inr (inl refl), c.tell_unwritten.ensures.closing _);
+  unprinted = λ e none. absurd (none (c.in-Err-Unwritten.ensures.unwritten c.in-Err-Unwritten.field-0-is));
+  whole_log = λ e none m is. absurd (none (c.in-Err-Unwritten.ensures.unwritten c.in-Err-Unwritten.field-0-is));
   others = search rules;
 }

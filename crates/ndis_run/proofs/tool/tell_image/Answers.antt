@@ -10,7 +10,7 @@ returns-in-Err-Memory g c = record {
   shown = search rules;
   unread = search rules;
   unwritten = search rules;
-  closing = λ off. (read_line c.args.sys.now, off_at_once (codes "-") _ _ _ c.tell_memory.ensures.front, inl refl);
+  closing = λ off. (read_line c.args.sys.now, off_at_once (codes "-") _ _ _ _ c.tell_memory.ensures.front c.tell_memory.ensures.status, inl refl);
   others = search rules;
 }
 

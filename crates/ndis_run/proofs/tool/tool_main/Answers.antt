@@ -1,6 +1,7 @@
-use Rattle.std.proofs.Common.{◌≡◌, ℕ, List, IsTrue, inl, inr, subst, sym, ◌∙◌}
+use Rattle.std.proofs.Common.{◌≡◌, ℕ, List, IsTrue, inl, inr, subst, sym, ◌∙◌, ◌++◌, ap, refl, codes, Some}
 use Rattle.ndis_run.specs.declared.words.Command.TheVariants.{Help, Version, RunZero, ShowImage, ShowInf}
-use Rattle.ndis_run.proofs.Told.{named, named_alone, named_pair}
+use Rattle.ndis_run.specs.Printed.{help_text, version_line}
+use Rattle.ndis_run.proofs.Told.{named, named_alone, named_pair, off_same}
 use Rattle.ndis_run.proofs.tool.tool_main.Goals as goal
 
 pub run_zero-requires-clause-readable : goal.run_zero-requires-clause-readable
@@ -54,3 +55,25 @@ returns-in-Some-ShowInf-clause-show_inf g c = λ inf id form.
     let first : c.as_str-in-Some-ShowInf.result.now ≡ inf = c.as_str-in-Some-ShowInf.ensures.value ∙ names.0 in
     let second : c.as_str-in-Some-ShowInf-2.result.now ≡ id = c.as_str-in-Some-ShowInf-2.ensures.value ∙ names.1 in
     rw (← first, ← second) c.tell_inf.ensures
+
+pub returns-in-Some-Help-clause-help : goal.returns-in-Some-Help-clause-help
+returns-in-Some-Help-clause-help g c = λ _.
+    let text : c.as_bytes.result.now ≡ help_text = c.as_bytes.ensures.value in
+    record {
+      known = c.tell.ensures.known;
+      same = refl;
+      printed = λ e first is. c.tell.ensures.told e first is ∙ ap (λ l. Some (first ++ l)) text;
+      unwritten = λ e. c.tell.ensures.untold e;
+      closing = λ off. off_same (codes "-") _ _ _ _ _ text (c.tell.ensures.closing (codes "-") off);
+    }
+
+pub returns-in-Some-Version-clause-version : goal.returns-in-Some-Version-clause-version
+returns-in-Some-Version-clause-version g c = λ _.
+    let text : c.as_bytes-in-Some-Version.result.now ≡ version_line = c.as_bytes-in-Some-Version.ensures.value in
+    record {
+      known = c.tell-in-Some-Version.ensures.known;
+      same = refl;
+      printed = λ e first is. c.tell-in-Some-Version.ensures.told e first is ∙ ap (λ l. Some (first ++ l)) text;
+      unwritten = λ e. c.tell-in-Some-Version.ensures.untold e;
+      closing = λ off. off_same (codes "-") _ _ _ _ _ text (c.tell-in-Some-Version.ensures.closing (codes "-") off);
+    }

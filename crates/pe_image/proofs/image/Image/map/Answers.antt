@@ -1,14 +1,14 @@
 use Rattle.std.proofs.Common.{◌≡◌, ℕ, List, None, length, All, ◌∙◌, ap, sym, subst}
 use Rattle.std.specs.List.{AllPairs}
-use Rattle.std.proofs.lemmas.Result.{on_ok_weaker}
+use Rattle.std.proofs.lemmas.Result.{on_ok_weaker, on_err_weaker}
 use Rattle.std.specs.FinMap as space
 use Rattle.nd_mem.specs.Space.{either_of}
 use Rattle.pe_image.specs.declared.headers.Section.{Section}
-use Rattle.pe_image.specs.Image.{ImageParts, range_cell, image_cells, read_only, sections_refusal, map_refusal, sections_of}
+use Rattle.pe_image.specs.Image.{ImageParts, range_cell, image_cells, read_only, sections_refusal, map_refusal, sections_of, Keeps}
 use Rattle.pe_image.specs.Inside.{parts_inside}
 use Rattle.pe_image.specs.Contents.{contents_of, filled_cell, AreDisjoint, EndsWithin}
 use Rattle.pe_image.proofs.Mapping.{either_none}
-use Rattle.pe_image.proofs.Parts.{still_free, sections_are}
+use Rattle.pe_image.proofs.Parts.{still_free, sections_are, on_err_from}
 use Rattle.pe_image.proofs.Contents.{length-contents_of}
 use Rattle.pe_image.proofs.Whole.{sections_within, sections_apart, whole_image}
 use Rattle.pe_image.proofs.image.Image.map.Goals as goal
@@ -55,3 +55,20 @@ returns-clause-ok c =
     (λ added. subst (λ (parts : ImageParts). (x : ℕ) → new x ≡ either_of (image_cells parts base slots x) (old x)) c.self.view_is
     (whole_image old mid new base image slots c.self.invariant.laid_out free headers (λ x. added x ∙ ap (λ (bytes : List ℕ). either_of (mid x) (filled_cell base bytes c.deref.result.now x)) contents ∙ ap (λ (listed : List Section). either_of (mid x) (filled_cell base (contents_of image base slots) listed x)) sections)))
     c.map_sections.ensures.ok
+
+pub returns-in_err-map_range-clause-kept : goal.returns-in_err-map_range-clause-kept
+returns-in_err-map_range-clause-kept c =
+    let kept : Keeps (space.get c.args.mem.now) (space.get c.map_range.new.mem) = λ a cell is. ap (λ s. space.get s a) c.in_err-map_range.ensures.err ∙ is in
+    on_err_from c.from_residual.result kept
+
+pub returns-clause-kept : goal.returns-clause-kept
+returns-clause-kept c =
+    let old = space.get c.args.mem.now in
+    let mid = space.get c.map_range.new.mem in
+    let new = space.get c.map_sections.new.mem in
+    let base = c.args.base.0 in
+    let image = parts_inside c.self.inside in
+    let headers : (x : ℕ) → mid x ≡ either_of (old x) (range_cell base image.header_size image.headers read_only x) = subst (λ (bytes : List ℕ). (x : ℕ) → mid x ≡ either_of (old x) (range_cell base image.header_size bytes read_only x)) c.as_slice-headers.ensures.value c.in_ok-map_range.ensures.ok in
+    on_err_weaker {P = Keeps mid new} {Q = Keeps old new} c.map_sections.result
+    (λ kept. λ a cell is. kept a cell (headers a ∙ ap (λ found. either_of found (range_cell base image.header_size image.headers read_only a)) is))
+    c.map_sections.ensures.kept

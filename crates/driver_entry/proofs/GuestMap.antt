@@ -1,9 +1,7 @@
 -- The image and the regions beside it fit into memory side by side.
-use Rattle.std.proofs.Common.{◌≡◌, ℕ, zero, suc, ◌+◌, ◌<◌, ◌≤◌, Bool, true, false, ◌&&◌, if◌then◌else◌, List, [], ◌∷◌, ◌++◌, map, length, take, get_or, Option, None, Some, refl, sym, ap, ◌∙◌, arith}
-use Rattle.std.specs.List.{AllByRecursion}
+use Rattle.std.proofs.Common.{◌≡◌, ℕ, zero, suc, ◌+◌, ◌<◌, ◌≤◌, Bool, true, false, ◌&&◌, if◌then◌else◌, List, [], ◌∷◌, ◌++◌, length, take, get_or, Option, None, Some, refl, sym, ap, ◌∙◌, arith}
 use Rattle.std.proofs.lemmas.Bool.{le-ltb, leb-true}
 use Rattle.std.proofs.lemmas.Bool.Decides.{nat_tests}
-use Rattle.std.proofs.lemmas.List.Elements.{recursion_from_All}
 use Rattle.std.specs.FinMap as finite
 use Rattle.std.specs.Ordering.{nat_cmp}
 use Rattle.nd_mem.specs.Cell.{Cell}
@@ -14,33 +12,20 @@ use Rattle.nd_mem.specs.declared.RegionRefusal.{RegionRefusal}
 use Rattle.driver_entry.specs.declared.guest.Region.{Region}
 use Rattle.driver_entry.specs.declared.guest.TheConstants.{GUEST_REGIONS}
 use Rattle.driver_entry.specs.Guest.{region_cell, rising, lies_in, blank}
-use Rattle.pe_image.specs.Image.{ImageParts, SectionPart, IsLaidOut, IsSectionLaidOut, sections_refusal, map_refusal}
+use Rattle.pe_image.specs.Image.{ImageParts, IsLaidOut, map_refusal}
+use Rattle.pe_image.proofs.Laws.{image_taken}
+use Rattle.pe_image.proofs.Mapping.{either_none_right}
 
 -- a range that ends in time and meets nothing is not refused
 pub free_range : (cells : Cells) (a n : ℕ) → a + n ≤ 0xF0000000 → ((k : ℕ) → k < n → cells (a + k) ≡ None) → region_refusal cells a n ≡ None
 free_range cells a n low free = rw (le-ltb 0xF0000000 (a + n) low) (ap overlap_at (mapped_none cells a n free))
 
-none_refused : (cells : Cells) → ((a : ℕ) → cells a ≡ None) → (image : ImageParts) (base limit : ℕ) → base + limit ≤ 0xF0000000 → image.size ≤ limit → (parts : List SectionPart)
-    → AllByRecursion (IsSectionLaidOut image) parts → sections_refusal cells base (map (λ part. part.section) parts) ≡ None
-none_refused cells free image base limit low size [] laid = refl
-none_refused cells free image base limit low size (part ∷ parts) laid =
-    rw (free_range cells (base + part.section.rva) part.section.span (omega (arith, laid.0.inside)) (λ k less. free _)) (none_refused cells free image base limit low size parts laid.1)
-
 -- an image that was read fits into empty memory
-pub map_taken : (cells : Cells) → ((a : ℕ) → cells a ≡ None) → (image : ImageParts) → IsLaidOut image → map_refusal cells 0x80100000 image ≡ None
-map_taken cells free image laid =
-    rw (free_range cells 0x80100000 image.header_size (omega (arith, laid.header_size)) (λ k less. free _))
-    (none_refused cells free image 0x80100000 0x400000 (omega arith) laid.size image.sections (recursion_from_All _ _ laid.sections))
-
 pub never_refused : (cells : Cells) → ((a : ℕ) → cells a ≡ None) → (image : ImageParts) → IsLaidOut image → (e : RegionRefusal) → map_refusal cells 0x80100000 image ≡ Some e → ⊥
-never_refused cells free image laid e refused = let taken = map_taken cells free image laid in cc
+never_refused cells free image laid e refused = let taken = image_taken cells 0x80100000 image laid (omega (arith, laid.size)) (λ a low high. free a) in cc
 
 pub get_empty : (s : Space) → s ≡ finite.empty → (a : ℕ) → finite.get s a ≡ None
 get_empty s is a = ap (λ (x : Space). finite.get x a) is ∙ finite.get-empty nat_cmp a
-
-pub either_none : {A : Type 0} (o : Option A) → either_of o None ≡ o
-either_none None = refl
-either_none (Some x) = refl
 
 and_both : (p q : Bool) → (p && q) ≡ true → (p ≡ true) × (q ≡ true)
 and_both true true e = (refl, refl)
@@ -117,7 +102,7 @@ added old before region a free = by_case old before (lies_in region a) free
     by_case None None true free = refl
     by_case None (Some x) true free = let e : ◌≡◌ {A = Option Cell} (Some x) None = free refl in absurd (cc)
     by_case (Some x) before true free = let e : ◌≡◌ {A = Option Cell} (Some x) None = free refl in absurd (cc)
-    by_case None before false free = sym (either_none before)
+    by_case None before false free = sym (either_none_right before)
     by_case (Some x) before false free = refl
 
 in_range : (region : Region) (a : ℕ) → lies_in region a ≡ true → region.at ≤ a

@@ -1,6 +1,8 @@
 pub mod GuestMap
+pub mod OneRun
 pub mod PutWords
 pub mod Runs
+pub mod SomeRun
 pub mod StartSpace
 pub mod Turns
 pub mod TwoWords

@@ -11,7 +11,7 @@ unfolding RunFrom now_from
 run_more c s [] e run meets = (meets, tt)
 run_more c s (first ∷ log) e run meets = (run.0, run_more c (after c s first) log e run.1 meets)
 
-now_more : (c : Inputs) (s : State) (log : List Entry) (e : Entry) → now_from c s (log ++ e ∷ []) ≡ after c (now_from c s log) e
+pub now_more : (c : Inputs) (s : State) (log : List Entry) (e : Entry) → now_from c s (log ++ e ∷ []) ≡ after c (now_from c s log) e
 unfolding now_from
 now_more c s [] e = refl
 now_more c s (first ∷ log) e = now_more c (after c s first) log e
@@ -33,7 +33,7 @@ unfolding RunFrom
 run_front c s [] more run = tt
 run_front c s (first ∷ log) more run = (run.0, run_front c (after c s first) log more run.1)
 
-charged_from : (c : Inputs) (s : State) (log : List Entry) → (now_from c s log).charged ≡ s.charged + charged log
+pub charged_from : (c : Inputs) (s : State) (log : List Entry) → (now_from c s log).charged ≡ s.charged + charged log
 unfolding now_from
 charged_from c s [] = omega arith
 charged_from c s (first ∷ log) =

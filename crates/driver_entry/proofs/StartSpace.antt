@@ -1,17 +1,15 @@
 -- The memory that the driver begins in is the one that the definitions name.
 use Rattle.std.proofs.Common.{◌≡◌, ◌≢◌, ℕ, zero, suc, ◌+◌, ◌<◌, ◌≤◌, ◌^◌, inl, inr, List, [], ◌∷◌, Option, None, Some, refl, sym, ap, ◌∙◌, arith, if◌then◌else◌, Bool, true, false, length, get_or, lit<}
-use Rattle.std.specs.List.{AllByRecursion}
 use Rattle.std.proofs.lemmas.Bool.{cases_eq, cases_lt}
 use Rattle.std.proofs.lemmas.Bool.Decides.{nat_tests}
-use Rattle.std.proofs.lemmas.List.Elements.{recursion_from_All}
 use Rattle.std.specs.FinMap as finite
 use Rattle.std.specs.Ordering.{nat_cmp}
-use Rattle.nd_mem.specs.declared.Rights.{Rights}
 use Rattle.nd_mem.specs.Cell.{Cell}
 use Rattle.nd_mem.specs.Space.{Cells, Space, either_of, first_fault, fault_in, address, wrapped, Any}
 use Rattle.nd_mem.specs.Regions.{insert_found, tabulated, mapped}
 use Rattle.nd_mem.proofs.Laws.{wrapped_below, fault_none, get_insert_same, get_insert_other, same_space}
-use Rattle.pe_image.specs.Image.{ImageParts, SectionPart, IsLaidOut, IsSectionLaidOut, ImportParts, image_cell, image_cells, sections_cell, range_cell, with_word, relocated, slotted, delta}
+use Rattle.pe_image.specs.Image.{ImageParts, IsLaidOut, image_cells}
+use Rattle.pe_image.proofs.Laws.{image_cells-out}
 use Rattle.driver_entry.specs.declared.guest.Region.{Region}
 use Rattle.driver_entry.specs.declared.guest.TheConstants.{GUEST_REGIONS, LOAD_BASE}
 use Rattle.driver_entry.specs.Guest.{region_cell, lies_in, blank, start_cell, start_space}
@@ -48,39 +46,9 @@ get_mapped cells none a =
       | inr high ↦ tabulated_out cells (2 ^ 32) a high ∙ sym (none a high)
     ]
 
-range_high : (at n : ℕ) (bytes : List ℕ) (rights : Rights) (a : ℕ) → at + n ≤ a → range_cell at n bytes rights a ≡ None
-range_high at n bytes rights a high = grind (arith, nat_tests)
-
-sections_high : (image : ImageParts) (base a : ℕ) → base + image.size ≤ a → (parts : List SectionPart) → AllByRecursion (IsSectionLaidOut image) parts → sections_cell base parts a ≡ None
-sections_high image base a high [] laid = refl
-sections_high image base a high (part ∷ parts) laid =
-    ap (λ x. either_of x (sections_cell base parts a)) (range_high (base + part.section.rva) part.section.span part.bytes part.section.rights a (omega (arith, laid.0.inside)))
-    ∙ sections_high image base a high parts laid.1
-
 -- the image ends below the regions beside it
-pub image_high : (image : ImageParts) → IsLaidOut image → (a : ℕ) → 0x80500000 ≤ a → image_cell image LOAD_BASE a ≡ None
-image_high image laid a high =
-    ap (λ x. either_of x (sections_cell LOAD_BASE image.sections a)) (range_high LOAD_BASE image.header_size image.headers _ a (omega (arith, laid.header_size)))
-    ∙ sections_high image LOAD_BASE a (omega (arith, laid.size)) image.sections (recursion_from_All _ _ laid.sections)
-
-word_none : (cells : Cells) (at word a : ℕ) → cells a ≡ None → with_word cells at word a ≡ None
-word_none cells at word a none = grind (none, arith, nat_tests)
-
-relocated_none : (base difference a : ℕ) (rvas : List ℕ) (cells : Cells) → cells a ≡ None → relocated base difference rvas cells a ≡ None
-unfolding relocated
-relocated_none base difference a [] cells none = none
-relocated_none base difference a (rva ∷ rvas) cells none = relocated_none base difference a rvas _ (word_none cells _ _ a none)
-
-slotted_none : (base a : ℕ) (functions : List ImportParts) (addresses : List ℕ) (cells : Cells) → cells a ≡ None → slotted base functions addresses cells a ≡ None
-unfolding slotted
-slotted_none base a [] addresses cells none = none
-slotted_none base a (function ∷ functions) [] cells none = none
-slotted_none base a (function ∷ functions) (at ∷ addresses) cells none = slotted_none base a functions addresses _ (word_none cells _ _ a none)
-
--- so does what is mapped of it
 pub image_ends : (image : ImageParts) → IsLaidOut image → (a : ℕ) → 0x80500000 ≤ a → image_cells image LOAD_BASE [] a ≡ None
-image_ends image laid a high =
-    slotted_none LOAD_BASE a image.imports [] _ (relocated_none LOAD_BASE (delta image LOAD_BASE) a image.relocations (image_cell image LOAD_BASE) (image_high image laid a high))
+image_ends image laid a high = image_cells-out image LOAD_BASE [] a laid (λ _. omega (arith, laid.size))
 
 start_high : (image : ImageParts) → IsLaidOut image → (a : ℕ) → 2 ^ 32 ≤ a → start_cell image a ≡ None
 start_high image laid a high =

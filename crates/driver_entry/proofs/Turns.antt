@@ -7,7 +7,7 @@ use Rattle.nd_base.specs.declared.numbers.Slot.TheVariants as slot
 use Rattle.ia32_step.specs.declared.FaultKind.{FaultKind}
 use Rattle.driver_entry.specs.declared.session.Ending.TheVariants.{Left, Faulting, Spent}
 use Rattle.driver_entry.specs.declared.session.Session.{Session}
-use Rattle.driver_entry.specs.Session.{IsOpen, HasEnded}
+use Rattle.driver_entry.specs.Session.{IsOpen, HasEnded, machine_of}
 use Rattle.ia32_step.specs.Registers.{Registers}
 use Rattle.ia32_step.specs.Machine.{Machine, Trapped, outcome, answer_to}
 use Rattle.ia32_step.specs.declared.Stepped.{Stepped}
@@ -17,7 +17,7 @@ use Rattle.driver_entry.specs.declared.entries.Entry.TheVariants.{Enter, Turn, F
 use Rattle.driver_entry.specs.declared.entries.Handler.TheVariants.{DriverEntry}
 use Rattle.driver_entry.specs.declared.guest.TheConstants.{DRIVER_ENTRY_WORDS}
 use Rattle.driver_entry.specs.Guest.{start_space, stack_pointer, stack_bytes, entered_registers}
-use Rattle.driver_entry.specs.Run.{Inputs, State, start, Open, Reaches, Run, IsTurn, IsWhole, FaultsBy, charged, machine, turned, is_moved}
+use Rattle.driver_entry.specs.Run.{Inputs, State, start, Open, Unentered, now_from, Reaches, Run, IsTurn, IsWhole, FaultsBy, charged, machine, turned, is_moved}
 use Rattle.driver_entry.proofs.Runs.{reaches_more, unmoved_by_other, turned_none, charged-now, reaches_none}
 
 abbrev pub open_state : Machine → ℕ → State
@@ -46,13 +46,23 @@ turn_logged c log m m' n count reached turn made =
     subst (λ (x : Machine). Reaches c (log ++ Turn (record { 0 = 0 }) count ∷ []) (open_state x (n + count))) (sym made)
     (reaches_more c log (open_state m n) (Turn (record { 0 = 0 }) count) reached (record { number = refl; turn = turn }))
 
+pub not_empty : (front : List Entry) (e : Entry) (log : List Entry) → log ≡ front ++ e ∷ [] → log ≢ []
+not_empty [] e log is none = cc
+not_empty (first ∷ front) e log is none = cc
+
+-- a log that leaves an open context has its entry
+open_is_entered : (c : Inputs) (log : List Entry) (m : Machine) (n : ℕ) → Reaches c log (open_state m n) → log ≢ []
+unfolding now_from
+open_is_entered c [] m n reached none = let same : Unentered ≡ Open m.registers = ap (λ (x : State). x.context) reached.state in cc
+open_is_entered c (e ∷ log) m n reached none = cc
+
 -- the log with its last entry, a fault
 pub fault_logged : (c : Inputs) (log more : List Entry) (m : Machine) (n : ℕ) (kind : FaultKind) (address : Addr) → Reaches c log (open_state m n) → n < c.budget
     → FaultsBy (outcome m) m.registers.eip kind address → more ≡ log ++ Fault (record { 0 = 0 }) kind address ∷ [] → IsWhole c more Faulting × (n ≡ charged more)
 fault_logged c log more m n kind address reached unspent faults is =
     let e = Fault (record { 0 = 0 }) kind address in
     let whole = reaches_more c log (open_state m n) e reached (record { number = refl; unspent = unspent; faults = faults }) in (
-      record { run = subst (λ (l : List Entry). Run c l) (sym is) whole.run; ends = (log, record { 0 = 0 }, kind, address, is) },
+      record { run = subst (λ (l : List Entry). Run c l) (sym is) whole.run; entered = not_empty log e more is; ends = (log, record { 0 = 0 }, kind, address, is) },
       omega (arith, charged-now c _ _ whole, ap charged is),
     )
 
@@ -62,7 +72,7 @@ pub leave_logged : (c : Inputs) (log more : List Entry) (m : Machine) (n : ℕ) 
 leave_logged c log more m n status reached unspent leaves eax is =
     let e = Leaving (record { 0 = 0 }) status in
     let whole = reaches_more c log (open_state m n) e reached (record { number = refl; unspent = unspent; leaves = (leaves, eax) }) in (
-      record { run = subst (λ (l : List Entry). Run c l) (sym is) whole.run; ends = (log, record { 0 = 0 }, is) },
+      record { run = subst (λ (l : List Entry). Run c l) (sym is) whole.run; entered = not_empty log e more is; ends = (log, record { 0 = 0 }, is) },
       omega (arith, charged-now c _ _ whole, ap charged is),
     )
 
@@ -70,7 +80,7 @@ leave_logged c log more m n status reached unspent leaves eax is =
 pub spent_ended : (c : Inputs) (s : Session) → IsOpen c s → s.budget ≤ s.charged → HasEnded c s Spent
 spent_ended c s opened over =
     let sum = charged-now c s.log.items _ opened.reached in
-    record { whole = record { run = opened.reached.run; ends = omega (arith, opened.within, opened.budget, sum) }; sum = sum; budget = opened.budget; front = s.log.items; reached = opened.reached; last = inl refl }
+    record { whole = record { run = opened.reached.run; entered = open_is_entered c s.log.items (machine_of s) s.charged opened.reached; ends = omega (arith, opened.within, opened.budget, sum) }; sum = sum; budget = opened.budget; front = s.log.items; reached = opened.reached; last = inl refl }
 
 abbrev pub entering : Entry
 entering = Enter (record { 0 = 0 }) DriverEntry DRIVER_ENTRY_WORDS

@@ -1,6 +1,6 @@
 -- Which logs are runs. A run is a finished list of entries: each of them meets what its kind needs in the state that the earlier ones
 -- leave. (Turns, budget and log: the project's own, docs/LOG.md. What an instruction does: Intel SDM volume 2, in ia32_step.)
-use Rattle.std.specs.Prelude.{◌≡◌, ℕ, zero, suc, ◌+◌, ◌<◌, ◌≤◌, Bool, true, false, List, [], ◌∷◌, ◌++◌, slice_index}
+use Rattle.std.specs.Prelude.{◌≡◌, ◌≢◌, ℕ, zero, suc, ◌+◌, ◌<◌, ◌≤◌, Bool, true, false, List, [], ◌∷◌, ◌++◌, slice_index}
 use Rattle.nd_base.specs.declared.numbers.Addr.{Addr}
 use Rattle.nd_base.specs.declared.numbers.CtxNo.{CtxNo}
 use Rattle.nd_base.specs.declared.numbers.Slot.TheVariants.{Import, Leave}
@@ -162,7 +162,8 @@ EndsBy c log (Left status) = (front : List Entry) × (context : CtxNo) × (log �
 EndsBy c log Faulting = (front : List Entry) × (context : CtxNo) × (kind : FaultKind) × (address : Addr) × (log ≡ front ++ Fault context kind address ∷ [])
 EndsBy c log Spent = charged log ≡ c.budget
 
--- a whole run of DriverEntry
+-- a whole run of DriverEntry: it was entered, and has ended
 pub record IsWhole (c : Inputs) (log : List Entry) (ending : Ending) : Type 0 where
   pub run : Run c log
+  pub entered : log ≢ []
   pub ends : EndsBy c log ending

@@ -4,7 +4,7 @@ use Rattle.ia32_step.specs.Machine.{Machine}
 use Rattle.driver_entry.specs.declared.entries.Entry.{Entry}
 use Rattle.driver_entry.specs.declared.session.Ending.{Ending}
 use Rattle.driver_entry.specs.declared.session.Session.{Session}
-use Rattle.driver_entry.specs.Run.{Inputs, State, Open, Reaches, IsWhole, machine, charged}
+use Rattle.driver_entry.specs.Run.{Inputs, State, Open, Run, Reaches, IsWhole, machine, charged}
 
 abbrev pub machine_of : Session → Machine
 machine_of s = machine s.regs s.memory
@@ -24,6 +24,15 @@ pub record IsRunning (c : Inputs) (s : Session) : Type 0 where
   pub reached : Reaches c s.log.items (state_of s)
   pub budget : s.budget ≡ c.budget
   pub unspent : s.charged < c.budget
+
+-- entries were added to the log, or none
+abbrev pub AddsEntries : Session → Session → Type 0
+AddsEntries before after = (more : List Entry) × (after.log.items ≡ before.log.items ++ more)
+
+-- Memory was wanted: the log is a run still, and holds what it held.
+pub record HasBrokenOff (c : Inputs) (before after : Session) : Type 0 where
+  pub run : Run c after.log.items
+  pub added : AddsEntries before after
 
 -- The log is a whole run, and what is kept as charged is the sum of its turns. Registers and memory are those that stood before the log's last
 -- entry where that is a leave or a fault, and else those that the log leaves.

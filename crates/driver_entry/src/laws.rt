@@ -1,11 +1,23 @@
-//! A law of the definitions of a run: the contract of a function that does nothing.
+//! Laws of the definitions of a run: each is the contract of a function that does nothing.
 
-ghost use Rattle.std.specs.Prelude.{◌++◌, List};
-ghost use Rattle.driver_entry.specs.Run.{Inputs, Run};
+ghost use Rattle.std.specs.Prelude.{◌≡◌, ◌++◌, ◌⊎◌, List};
+ghost use Rattle.driver_entry.specs.Run.{Inputs, Run, IsWhole};
 
 use crate::entries::Entry;
+use crate::session::Ending;
 
 /// Every front of a run is a run.
 pub fn fronts_of_runs_are_runs()
     ensures { (c : Inputs) (log more : List Entry) → Run c (log ++ more) → Run c log }
+{}
+
+/// Of two runs of one image with one budget, one is a front of the other.
+pub fn runs_of_one_image_are_fronts()
+    ensures { (c : Inputs) (log log' : List Entry) → Run c log → Run c log' → (more : List Entry) × ((log' ≡ log ++ more) ⊎ (log ≡ log' ++ more)) }
+{}
+
+/// With one budget an image has one whole run, which ends in one way, and no other.
+pub fn one_image_has_one_run()
+    ensures some { (c : Inputs) → (log : List Entry) × (ending : Ending) × IsWhole c log ending }
+    ensures no_other { (c : Inputs) (log log' : List Entry) (ending ending' : Ending) → IsWhole c log ending → IsWhole c log' ending' → (log ≡ log') × (ending ≡ ending') }
 {}

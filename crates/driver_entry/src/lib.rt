@@ -7,5 +7,5 @@ pub mod laws;
 pub mod session;
 
 pub use entries::{Entry, Handler, text_of};
-pub use laws::fronts_of_runs_are_runs;
+pub use laws::{fronts_of_runs_are_runs, one_image_has_one_run, runs_of_one_image_are_fronts};
 pub use session::{Ending, Session};

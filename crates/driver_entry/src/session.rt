@@ -1,9 +1,9 @@
 //! A run of DriverEntry, from its first instruction to its end.
 
-ghost use Rattle.std.specs.Prelude.{◌≡◌, [], ◌≢◌, ℕ, ◌+◌, ◌<◌, ◌≤◌, true, false, OnOk, IfOk, IfSome, IfNone};
+ghost use Rattle.std.specs.Prelude.{◌≡◌, [], ◌≢◌, ℕ, ◌+◌, ◌<◌, ◌≤◌, true, false, OnOk, OnErr, IfOk, IfSome, IfNone, MatchResult};
 ghost use Rattle.ia32_step.specs.Machine.{outcome, answer_to};
 ghost use Rattle.driver_entry.specs.Run.{FaultsBy, Inputs, machine, turned, is_moved};
-ghost use Rattle.driver_entry.specs.Session.{machine_of, IsOpen, IsRunning, HasEnded};
+ghost use Rattle.driver_entry.specs.Session.{machine_of, IsOpen, IsRunning, AddsEntries, HasBrokenOff, HasEnded};
 ghost use Rattle.ia32_step.specs.Machine.{Trapped};
 
 use crate::entries::{Entry, Handler};
@@ -117,6 +117,8 @@ impl Session {
         ensures open { OnOk result (IsOpen inputs self.new) }
         ensures last { IfOk result (λ last. last ≢ Stepped.Went → answer_to (outcome (machine_of self.new)) ≡ last) }
         ensures went { IfOk result (λ last. last ≡ Stepped.Went → self.old.charged < self.new.charged) }
+        ensures added { OnOk result (AddsEntries self.old self.new) }
+        ensures unlogged { OnErr result (self.new.log.items ≡ self.old.log.items) }
     {
         let most = (self.budget - self.charged).min(TURN_LENGTH) as u8;
         let turned = make_turn(&mut self.regs, &mut self.memory, most);
@@ -136,7 +138,8 @@ impl Session {
         ghost inputs: { Inputs }
         requires running { IsRunning inputs self.old }
         requires faults { FaultsBy (outcome (machine_of self.old)) self.old.regs.eip kind address }
-        ensures { IfOk result (λ ending. HasEnded inputs self.new ending) }
+        ensures ended { IfOk result (λ ending. HasEnded inputs self.new ending) }
+        ensures unlogged { OnErr result (self.new.log.items ≡ self.old.log.items) }
     {
         self.log.push(Entry::Fault {
             context: CONTEXT,
@@ -151,7 +154,8 @@ impl Session {
         ghost inputs: { Inputs }
         requires running { IsRunning inputs self.old }
         requires leaves { outcome (machine_of self.old) ≡ Trapped Slot.Leave }
-        ensures { IfOk result (λ ending. HasEnded inputs self.new ending) }
+        ensures ended { IfOk result (λ ending. HasEnded inputs self.new ending) }
+        ensures unlogged { OnErr result (self.new.log.items ≡ self.old.log.items) }
     {
         let status = Status(self.regs.get(EAX));
         self.log.push(Entry::Leave {
@@ -167,7 +171,9 @@ impl Session {
         requires { IsRunning inputs self.old }
         ensures on { IfOk result (λ ending. IfNone ending (IsRunning inputs self.new)) }
         ensures later { IfOk result (λ ending. IfNone ending (self.old.charged < self.new.charged)) }
+        ensures added { IfOk result (λ ending. IfNone ending (AddsEntries self.old self.new)) }
         ensures ended { IfOk result (λ ending. IfSome ending (HasEnded inputs self.new)) }
+        ensures broken_off { OnErr result (HasBrokenOff inputs self.old self.new) }
     {
         let last = self.turn()?;
         if self.charged >= self.budget {
@@ -184,11 +190,12 @@ impl Session {
         }
     }
 
-    /// Goes on to the end of DriverEntry.
+    /// Goes on to the end of DriverEntry. Where memory is wanted, the log is a run as far as it has
+    /// come.
     pub fn finish(&mut self) -> Result<Ending, OutOfMemory>
         ghost inputs: { Inputs }
         requires { IsRunning inputs self.old }
-        ensures { IfOk result (λ ending. HasEnded inputs self.new ending) }
+        ensures { MatchResult result (λ ending. HasEnded inputs self.new ending) (λ e. HasBrokenOff inputs self.old self.new) }
     {
         loop {
             if let Some(ending) = self.go_on()? {

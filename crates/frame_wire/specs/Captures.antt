@@ -20,11 +20,12 @@ abbrev pub DoNotFall : ℕ → List Entry → Type 0
 DoNotFall last [] = Unit {0}
 DoNotFall last (e ∷ es) = (last ≤ time e) × DoNotFall (time e) es
 
--- the time of the last entry, and of the first; none has the time 0
+-- the time of the last entry, where there is one, and else the time last
 abbrev pub last_time : ℕ → List Entry → ℕ
 last_time last [] = last
 last_time last (e ∷ es) = last_time (time e) es
 
+-- the time of the first entry, or 0 where there is none
 abbrev pub start_time : List Entry → ℕ
 start_time [] = 0
 start_time (e ∷ es) = time e

@@ -1,5 +1,9 @@
-//! Files of Ethernet frames in the classic pcap format, version 2.4, link type 1
-//! (the libpcap file format, pcap-savefile(5)): reading one, and writing one.
+//! Files of Ethernet frames in the classic pcap format with times in microseconds and link type 1
+//! (the libpcap file format, pcap-savefile(5)): reading one in either byte order, and writing one
+//! in little-endian, as version 2.4.
+//!
+//! Of a file that is read, the version, the time zone, the accuracy and the snap length are not
+//! judged, nor microseconds of a million and more, which count as the time that they are.
 #![tactic(auto)]
 
 mod arrival;

@@ -16,10 +16,12 @@ pub enum WireRefusal {
     /// More than 134,217,728 bytes, or bytes behind 65,536 entries.
     #[error("the file of frames is too long")]
     TooLong,
-    /// No 24 bytes that begin with the magic number in either byte order.
+    /// No 24 bytes that begin with the magic number in either byte order. Files with times in
+    /// nanoseconds, and pcapng files, have other magic numbers.
     #[error("no pcap header")]
     BadHeader,
-    /// A link type other than 1, Ethernet.
+    /// A link type other than 1, Ethernet: all 32 bits of the field, so also one whose upper bits
+    /// tell of frame check sequences.
     #[error("the link type is {0}, not Ethernet")]
     LinkType(u32),
     /// An entry's bytes are not all there.

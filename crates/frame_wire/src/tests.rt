@@ -132,3 +132,29 @@ fn written(rt: HostRuntime) -> Result<(), Fail> {
     );
     Ok(())
 }
+
+#[test]
+fn refusals_have_texts(rt: HostRuntime) -> Result<(), Fail> {
+    for (refusal, text) in [
+        (WireRefusal::OutOfMemory, "out of memory"),
+        (WireRefusal::TooLong, "the file of frames is too long"),
+        (WireRefusal::BadHeader, "no pcap header"),
+        (
+            WireRefusal::LinkType(101),
+            "the link type is 101, not Ethernet",
+        ),
+        (WireRefusal::CutShort(24), "the entry at 24 is cut short"),
+        (
+            WireRefusal::Length(24),
+            "the entry at 24 has a wrong length",
+        ),
+        (
+            WireRefusal::Backwards(84),
+            "the entry at 84 is before the last one in time",
+        ),
+    ] {
+        let shown = format!(in rt.alloc(); "{refusal}")?;
+        assert_eq!(rt; shown.as_str(), text);
+    }
+    Ok(())
+}

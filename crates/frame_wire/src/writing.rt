@@ -41,7 +41,8 @@ fn put_frame(out: &mut Bytes, frame: &Arrival) -> Result<(), OutOfMemory>
     out.extend_from_slice(frame.bytes.as_slice())
 }
 
-/// The frames as a little-endian file.
+/// The frames as a little-endian file. Seconds and lengths are written modulo 2^32, so that a file
+/// of frames beyond the limits of [`round_trip`] does not have them again.
 #[tactic(auto, unfolding(crate::specs::Captures::header))]
 pub fn write_frames(alloc: Global, frames: &[Arrival]) -> Result<Bytes, OutOfMemory>
     ensures { IfOk result (λ b. b ≡ written frames.now) }

@@ -1,4 +1,5 @@
--- One step of a machine: the instruction at EIP (Intel SDM volume 1, 3.5) is fetched, read and done, or there is a fault (volume 3, 6.15).
+-- One step of a machine: the instruction at EIP is fetched, read and done, or there is a fault.
+-- (Intel SDM volume 1, "Instruction Pointer"; volume 3, "Exception and Interrupt Reference".)
 use Rattle.std.specs.Prelude.{ℕ, ◌≡◌, ◌+◌, ◌^◌, ◌<◌, List, ◌++◌, length, Option, None, Some}
 use Rattle.std.specs.List.{All}
 use Rattle.nd_base.specs.declared.numbers.Slot.{Slot}

@@ -17,7 +17,7 @@ faulted (fault.NotReadable a) = Faulted kind.NotReadable a
 faulted (fault.NotWritable a) = Faulted kind.NotWritable a
 faulted (fault.NotExecutable a) = Faulted kind.NotExecutable a
 
--- ---- the status flags of an addition (volume 1, 3.4.3.1)
+-- ---- the status flags of an addition (volume 1, "EFLAGS Register", "Status Flags")
 
 abbrev pub sum_of : ℕ → ℕ → ℕ
 sum_of a b = (a + b) % 2 ^ 32

@@ -1,9 +1,9 @@
--- The registers of an IA-32 program: Intel SDM volume 1, 3.4.
+-- The registers of an IA-32 program: Intel SDM volume 1, "Basic Program Execution Registers".
 use Rattle.std.specs.Prelude.{ℕ, Bool, false, List, replicate}
 use Rattle.ia32_step.specs.declared.registers.Flag.{Flag}
 use Rattle.ia32_step.specs.declared.registers.Flag.TheVariants.{CF, PF, AF, ZF, SF, DF, OF}
 
--- the general registers EAX, ECX, EDX, EBX, ESP, EBP, ESI, EDI, by number, EIP, and the flags of EFLAGS
+-- the eight general registers, by number EAX, ECX, EDX, EBX, ESP, EBP, ESI, EDI; EIP; and the flags of EFLAGS
 pub record Registers : Type 0 where
   pub general : List ℕ
   pub eip : ℕ

@@ -39,7 +39,8 @@ pub enum Stepped {
     Trap(Slot),
     /// The instruction is done.
     Went,
-    /// The instruction has no result, and nothing changed.
+    /// The instruction has no result, and nothing changed. The address is EIP at DivideError and at
+    /// Outside, and else that of the first byte in memory that may not be so used.
     Fault(FaultKind, Addr),
 }
 

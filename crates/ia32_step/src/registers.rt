@@ -1,4 +1,5 @@
-//! The registers of an IA-32 program (Intel SDM volume 1, 3.4).
+//! The registers of an IA-32 program (Intel SDM volume 1, "Basic Program
+//! Execution Registers").
 
 ghost use Rattle.std.specs.Prelude.{◌≡◌, ◌<◌, slice_index, slice_set, replicate};
 ghost use Rattle.ia32_step.specs.Registers.{at_reset, flag_of, with_flag};

@@ -18,3 +18,14 @@ pub mod JoinLoops
 pub mod ReadingLoops
 pub mod WrittenLines
 pub mod WrittenFiles
+pub mod AnswerLaws
+pub mod NameLaws
+pub mod EarliestLaws
+pub mod ValueLaws
+pub mod SpellingLaws
+pub mod FaultLaws
+pub mod BlankLemmas
+pub mod WordLemmas
+pub mod LayoutLines
+pub mod LayoutFiles
+pub mod DistinctLaws

@@ -44,7 +44,7 @@ pub start_end : (cs : List ℕ) (i : ℕ) → length cs ≤ i → trimmed_start 
 unfolding trimmed_start
 start_end cs i h = ap trimmed_start (none_left cs i h) ∙ sym (none_left cs i h)
 
-end_blank : (xs : List ℕ) (b : ℕ) → is_blank b ≡ true → trimmed_end (xs ++ b ∷ []) ≡ trimmed_end xs
+pub end_blank : (xs : List ℕ) (b : ℕ) → is_blank b ≡ true → trimmed_end (xs ++ b ∷ []) ≡ trimmed_end xs
 unfolding trimmed_end
 end_blank [] b on = rw on refl
 end_blank (x ∷ xs) b on = ap (onto_rest x) (end_blank xs b on)

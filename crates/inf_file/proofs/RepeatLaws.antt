@@ -5,7 +5,7 @@ use Rattle.std.proofs.lemmas.Bool.{cases_Bool}
 use Rattle.std.proofs.lemmas.Bool.Decides.{nat_tests}
 use Rattle.inf_file.specs.Sections.{Line}
 use Rattle.inf_file.specs.Strings.{Strings}
-use Rattle.inf_file.specs.Models.{has_id, earlier, if_has_id}
+use Rattle.inf_file.specs.Models.{has_id, earlier, earlier_with_id}
 use Rattle.inf_file.specs.Rows.{with_default}
 use Rattle.inf_file.specs.Parameters.{lower}
 use Rattle.inf_file.specs.declared.param.Param.{Param}
@@ -60,13 +60,13 @@ earlier-still (Some k) x y h = elim (cases_Bool (ltb x.number k.number)) [
 ]
 
 module _ (s : Strings) (id : List ℕ) where
-  pub if_has_id-once : (b : Option Line) (x : Line) → if_has_id s id (if_has_id s id b x) x ≡ if_has_id s id b x
-  unfolding if_has_id
-  if_has_id-once b x = elim (cases_Bool (has_id s id x)) [ inl on ↦ rw on (earlier-once b x) | inr off ↦ rw off refl ]
+  pub earlier_with_id-once : (b : Option Line) (x : Line) → earlier_with_id s id (earlier_with_id s id b x) x ≡ earlier_with_id s id b x
+  unfolding earlier_with_id
+  earlier_with_id-once b x = elim (cases_Bool (has_id s id x)) [ inl on ↦ rw on (earlier-once b x) | inr off ↦ rw off refl ]
 
-  pub if_has_id-still : (b : Option Line) (x y : Line) → if_has_id s id b x ≡ b → if_has_id s id (if_has_id s id b y) x ≡ if_has_id s id b y
-  unfolding if_has_id
-  if_has_id-still b x y h = elim (cases_Bool (has_id s id x)) [
+  pub earlier_with_id-still : (b : Option Line) (x y : Line) → earlier_with_id s id b x ≡ b → earlier_with_id s id (earlier_with_id s id b y) x ≡ earlier_with_id s id b y
+  unfolding earlier_with_id
+  earlier_with_id-still b x y h = elim (cases_Bool (has_id s id x)) [
     | inl on ↦ let h2 = rw on at h in elim (cases_Bool (has_id s id y)) [ inl on2 ↦ rw (on, on2) (earlier-still b x y h2) | inr off ↦ rw (on, off) h2 ]
     | inr off ↦ rw off refl
   ]

@@ -16,16 +16,16 @@ use Rattle.inf_file.proofs.ListLemmas.{fold-flat, filter_map-flat}
 use Rattle.inf_file.proofs.RepeatFolds.{thinned-from, fold-thinned}
 use Rattle.inf_file.proofs.RepeatLaws.{with_default-once, with_default-still}
 
-same_folded : (a b : List ℕ) → is_same a b ≡ true → folded a ≡ folded b
+pub same_folded : (a b : List ℕ) → is_same a b ≡ true → folded a ≡ folded b
 unfolding is_same
 same_folded a b h = (bytes_eq-Decides (folded a) (folded b)).0 h
 
 -- texts that are the same are the same as each other text
-is_same-congr : (a b t : List ℕ) → is_same a b ≡ true → is_same a t ≡ is_same b t
+pub is_same-congr : (a b t : List ℕ) → is_same a b ≡ true → is_same a t ≡ is_same b t
 unfolding is_same
 is_same-congr a b t h = ap (λ (x : List ℕ). bytes_eq x (folded t)) (same_folded a b h)
 
-same_both : (a b t : List ℕ) → is_same a t ≡ true → is_same b t ≡ true → is_same a b ≡ true
+pub same_both : (a b t : List ℕ) → is_same a t ≡ true → is_same b t ≡ true → is_same a b ≡ true
 unfolding is_same
 same_both a b t h k = (bytes_eq-Decides (folded a) (folded b)).1 (same_folded a t h ∙ sym (same_folded b t k))
 
@@ -156,7 +156,7 @@ one_set : (o : Option Param) (ps rest : List Param) → fold with_param (set_som
 one_set None ps rest = refl
 one_set (Some p) ps rest = refl
 
-setting-fold : (s : Strings) (ps : List Param) (rows : List Line) → fold (setting s) ps rows ≡ fold with_param ps (filter_map (λ row. set_by (saying s row)) rows)
+pub setting-fold : (s : Strings) (ps : List Param) (rows : List Line) → fold (setting s) ps rows ≡ fold with_param ps (filter_map (λ row. set_by (saying s row)) rows)
 setting-fold s ps [] = refl
 setting-fold s ps (row ∷ rows) = setting-fold s (setting s ps row) rows ∙ one_set (set_by (saying s row)) ps (filter_map (λ r. set_by (saying s r)) rows)
 

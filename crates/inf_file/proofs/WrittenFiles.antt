@@ -20,12 +20,12 @@ use Rattle.inf_file.proofs.WrittenLines.{value_quoted, open_quoted, open_values,
 
 -- ---- texts without line feeds
 
-feeds-append : (xs ys : List ℕ) → HasNoFeed xs → HasNoFeed ys → HasNoFeed (xs ++ ys)
+pub feeds-append : (xs ys : List ℕ) → HasNoFeed xs → HasNoFeed ys → HasNoFeed (xs ++ ys)
 feeds-append [] ys h k = k
 feeds-append (x ∷ xs) ys h k = (h.0, feeds-append xs ys h.1 k)
 
-one : (c : ℕ) → c ≢ 10 → HasNoFeed (c ∷ [])
-one c h = (h, tt)
+pub one_feed : (c : ℕ) → c ≢ 10 → HasNoFeed (c ∷ [])
+one_feed c h = (h, tt)
 
 feeds-doubled : (v : List ℕ) → HasNoFeed v → HasNoFeed (doubled v)
 unfolding doubled
@@ -35,8 +35,8 @@ feeds-doubled (c ∷ cs) h = elim (cases_Bool (eqb c 34)) [
   | inr off ↦ rw off (h.0, feeds-doubled cs h.1)
 ]
 
-feeds-quoted : (v : List ℕ) → HasNoFeed v → HasNoFeed (quoted v)
-feeds-quoted v h = ((λ e. absurd (omega arith)), feeds-append (doubled v) (34 ∷ []) (feeds-doubled v h) (one 34 (λ e. absurd (omega arith))))
+pub feeds-quoted : (v : List ℕ) → HasNoFeed v → HasNoFeed (quoted v)
+feeds-quoted v h = ((λ e. absurd (omega arith)), feeds-append (doubled v) (34 ∷ []) (feeds-doubled v h) (one_feed 34 (λ e. absurd (omega arith))))
 
 feeds-values : (vs : List (List ℕ)) → AllByRecursion HasNoFeed vs → HasNoFeed (written_values vs)
 unfolding written_values
@@ -56,10 +56,10 @@ record IsPlain (cs : List ℕ) : Type 0 where
   no_join : eqb last 92 ≡ false
   no_return : eqb last 13 ≡ false
 
-last_is : (front : List ℕ) (c : ℕ) → get_or (front ++ c ∷ []) (length (front ++ c ∷ []) - 1) 0 ≡ c
+pub last_is : (front : List ℕ) (c : ℕ) → get_or (front ++ c ∷ []) (length (front ++ c ∷ []) - 1) 0 ≡ c
 last_is front c = let e : length (front ++ c ∷ []) - 1 ≡ length front = omega (arith, length_push front c) in rw e (get_or-append_seam front c [] 0)
 
-split_feed : (xs rest : List ℕ) → HasNoFeed xs → slice_split (λ b. eqb b 10) (xs ++ 10 ∷ rest) ≡ xs ∷ slice_split (λ b. eqb b 10) rest
+pub split_feed : (xs rest : List ℕ) → HasNoFeed xs → slice_split (λ b. eqb b 10) (xs ++ 10 ∷ rest) ≡ xs ∷ slice_split (λ b. eqb b 10) rest
 split_feed [] rest h = slice_split-cons_yes (λ b. eqb b 10) 10 rest refl
 split_feed (x ∷ xs) rest h = slice_split-cons_no (λ b. eqb b 10) x (xs ++ 10 ∷ rest) (ne_eqb x 10 h.0) ∙ rw (split_feed xs rest h.1) refl
 
@@ -91,7 +91,7 @@ header_plain : (name : List ℕ) → HasNoFeed name → IsPlain (written_header 
 unfolding front_len
 header_plain name h = record {
   words = omega (arith, front_quoted 59 name (93 ∷ []) refl, length_push (quoted name) 93);
-  feeds = ((λ e. absurd (omega arith)), feeds-append (quoted name) (93 ∷ []) (feeds-quoted name h) (one 93 (λ e. absurd (omega arith))));
+  feeds = ((λ e. absurd (omega arith)), feeds-append (quoted name) (93 ∷ []) (feeds-quoted name h) (one_feed 93 (λ e. absurd (omega arith))));
   front = 91 ∷ quoted name;
   last = 93;
   ends = refl;
@@ -166,25 +166,25 @@ line_step front line h =
 
 -- ---- sections
 
-section_new : (name : List ℕ) (others : List Section) → AllByRecursion (λ o. is_same name o.name ≡ false) others → with_section name others ≡ others ++ record { name = name; lines = [] } ∷ []
+pub section_new : (name : List ℕ) (others : List Section) → AllByRecursion (λ o. is_same name o.name ≡ false) others → with_section name others ≡ others ++ record { name = name; lines = [] } ∷ []
 unfolding with_section
 section_new name [] h = refl
 section_new name (o ∷ os) h = rw h.0 (ap (λ (ss : List Section). o ∷ ss) (section_new name os h.1))
 
-place_new : (name : List ℕ) (others : List Section) → AllByRecursion (λ o. is_same name o.name ≡ false) others → place_of name others ≡ length others
+pub place_new : (name : List ℕ) (others : List Section) → AllByRecursion (λ o. is_same name o.name ≡ false) others → place_of name others ≡ length others
 place_new name [] h = refl
 place_new name (o ∷ os) h = rw h.0 (omega (arith, place_new name os h.1))
 
-line_last : (others : List Section) (s : Section) (line : Line) → with_line (length others) line (others ++ s ∷ []) ≡ others ++ with_last_line line s ∷ []
+pub line_last : (others : List Section) (s : Section) (line : Line) → with_line (length others) line (others ++ s ∷ []) ≡ others ++ with_last_line line s ∷ []
 unfolding with_line
 line_last [] s line = refl
 line_last (o ∷ os) s line = ap (λ (ss : List Section). o ∷ ss) (line_last os s line)
 
-all_step : (front next : Front) (j : Joined) (js : List Joined) → with_joined front j ≡ Ok next → with_all front (j ∷ js) ≡ with_all next js
+pub all_step : (front next : Front) (j : Joined) (js : List Joined) → with_joined front j ≡ Ok next → with_all front (j ∷ js) ≡ with_all next js
 unfolding with_all
 all_step front next j js h = rw h refl
 
-abbrev behind : List Section → List ℕ → List Line → Front
+abbrev pub behind : List Section → List ℕ → List Line → Front
 behind others name ls = record { sections = others ++ record { name = name; lines = ls } ∷ []; place = Some (length others) }
 
 one_line : (others : List Section) (name : List ℕ) (before : List Line) (line : Line) (n : ℕ) (rest : List ℕ) → line.number ≡ n → CanBeLine line

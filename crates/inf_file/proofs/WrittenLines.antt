@@ -61,15 +61,15 @@ parts_doubled (c ∷ cs) more p ps h = elim (cases_Bool (eqb c 34)) [
   | inr off ↦ rw off (rw off (ap (onto_first c) (parts_doubled cs more p ps h)))
 ]
 
-parts_quoted : (v more p : List ℕ) (ps : List (List ℕ)) → parts false more ≡ p ∷ ps → parts false (quoted v ++ more) ≡ (34 ∷ (doubled v ++ 34 ∷ p)) ∷ ps
+pub parts_quoted : (v more p : List ℕ) (ps : List (List ℕ)) → parts false more ≡ p ∷ ps → parts false (quoted v ++ more) ≡ (34 ∷ (doubled v ++ 34 ∷ p)) ∷ ps
 unfolding parts
 parts_quoted v more p ps h = ap (parts false) (quoted_more v more) ∙ ap (onto_first 34) (parts_doubled v more p ps h)
 
-no_parts : parts false [] ≡ [] ∷ []
+pub no_parts : parts false [] ≡ [] ∷ []
 unfolding parts
 no_parts = refl
 
-parts_comma : (rest : List ℕ) → parts false (44 ∷ rest) ≡ [] ∷ parts false rest
+pub parts_comma : (rest : List ℕ) → parts false (44 ∷ rest) ≡ [] ∷ parts false rest
 unfolding parts
 parts_comma rest = refl
 
@@ -97,19 +97,19 @@ front_values mark (v ∷ []) ne nc = ap (front_len mark false) (sym (whole_quote
 front_values mark (v ∷ w ∷ vs) ne nc =
     front_quoted mark v (44 ∷ written_values (w ∷ vs)) ne ∙ rw nc (omega (arith, front_values mark (w ∷ vs) ne nc, length-append (quoted v) (44 ∷ written_values (w ∷ vs))))
 
-cut_there : (mark : ℕ) (front behind : List ℕ) → front_len mark false (front ++ mark ∷ behind) ≡ length front → cut mark (front ++ mark ∷ behind) ≡ Some (front, behind)
+pub cut_there : (mark : ℕ) (front behind : List ℕ) → front_len mark false (front ++ mark ∷ behind) ≡ length front → cut mark (front ++ mark ∷ behind) ≡ Some (front, behind)
 cut_there mark front behind h =
     let lt : ltb (length front) (length (front ++ mark ∷ behind)) ≡ true = simp length-append (search (arith, nat_tests)) in
     rw h (rw (lt, take-append_seam, drop-append-add) refl)
 
-mark_here : (mark : ℕ) (rest : List ℕ) → front_len mark false (mark ∷ rest) ≡ 0
+pub mark_here : (mark : ℕ) (rest : List ℕ) → front_len mark false (mark ∷ rest) ≡ 0
 unfolding front_len
 mark_here mark rest = let e : eqb mark mark ≡ true = search (arith, nat_tests) in rw e refl
 
 pub cut_quoted : (mark : ℕ) (v behind : List ℕ) → eqb 34 mark ≡ false → cut mark (quoted v ++ mark ∷ behind) ≡ Some (quoted v, behind)
 cut_quoted mark v behind ne = cut_there mark (quoted v) behind (front_quoted mark v (mark ∷ behind) ne ∙ omega (arith, mark_here mark behind))
 
-cut_nowhere : (mark : ℕ) (cs : List ℕ) → front_len mark false cs ≡ length cs → cut mark cs ≡ None
+pub cut_nowhere : (mark : ℕ) (cs : List ℕ) → front_len mark false cs ≡ length cs → cut mark cs ≡ None
 cut_nowhere mark cs h = let ge : ltb (length cs) (length cs) ≡ false = search (arith, nat_tests) in rw h (rw ge refl)
 
 pub entry_written : (line : Line) → line.values ≢ [] → entry line.number (written_line line) (cut 61 (written_line line)) ≡ line

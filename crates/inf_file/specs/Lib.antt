@@ -12,3 +12,8 @@ pub mod Quotes
 pub mod Joining
 pub mod Reading
 pub mod Written
+pub mod ByName
+pub mod Spelling
+pub mod Faults
+pub mod Layout
+pub mod Earliest

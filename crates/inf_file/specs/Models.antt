@@ -50,21 +50,18 @@ models_place strings sections line =
 abbrev pub models : Strings → List Section → List Line → List Line
 models strings sections makers = flat_map (λ maker. lines_at_some sections (models_place strings sections maker)) makers
 
-abbrev pub id_among : Strings → List ℕ → List (List ℕ) → Bool
-id_among strings id values = list_any (λ value. is_same id (replaced strings value)) values
-
--- an id behind the install section's name is the hardware id
+-- a model line, whose values are its install section and then its ids, has the hardware id among these
 unfoldable pub has_id : Strings → List ℕ → Line → Bool
-has_id strings id line = id_among strings id (drop 1 line.values)
+has_id strings id model = list_any (λ value. is_same id (replaced strings value)) (drop 1 model.values)
 
 -- of two lines the one that stands first in the file
 abbrev pub earlier : Option Line → Line → Option Line
 earlier None line = Some line
 earlier (Some best) line = if nat_lt line.number best.number then Some line else Some best
 
--- the earlier line, where the second has the id
-unfoldable pub if_has_id : Strings → List ℕ → Option Line → Line → Option Line
-if_has_id strings id best line = if has_id strings id line then earlier best line else best
+-- the model line so far, or another one that has the id and stands earlier
+unfoldable pub earlier_with_id : Strings → List ℕ → Option Line → Line → Option Line
+earlier_with_id strings id best line = if has_id strings id line then earlier best line else best
 
 -- the first line of the file among the model lines that have the id
 unfoldable pub model_of : Strings → List Section → List Line → List ℕ → Option Line

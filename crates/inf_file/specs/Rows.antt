@@ -13,21 +13,22 @@ use Rattle.inf_file.specs.declared.row.Saying.TheVariants.{Nothing, Sets, Defaul
 abbrev pub text_param : List ℕ → List ℕ → Param
 text_param name value = record { name = name; value = Text value }
 
--- flags 0x00010001 want a number
-abbrev pub number_row : List ℕ → Option ℕ → Saying
-number_row name None = Bad
-number_row name (Some n) = Sets (record { name = name; value = Number n })
+-- a row of the type FLG_ADDREG_TYPE_DWORD, whose value has to be a number
+abbrev pub dword_row : List ℕ → Option ℕ → Saying
+dword_row name None = Bad
+dword_row name (Some n) = Sets (record { name = name; value = Number n })
 
-abbrev pub flagged : List ℕ → Option ℕ → List ℕ → Saying
-flagged name None value = Nothing
-flagged name (Some flags) value = if flags == 0 then Sets (text_param name value) else if flags == 0x10001 then number_row name (number_of value) else Nothing
+-- a row by its flags: 0 is FLG_ADDREG_TYPE_SZ, a string, and 0x00010001 is FLG_ADDREG_TYPE_DWORD; other types say nothing
+abbrev pub typed_row : List ℕ → Option ℕ → List ℕ → Saying
+typed_row name None value = Nothing
+typed_row name (Some flags) value = if flags == 0 then Sets (text_param name value) else if flags == 0x10001 then dword_row name (number_of value) else Nothing
 
 abbrev pub is_empty : List ℕ → Bool
 is_empty text = length text == 0
 
--- a row of the driver's own key sets a parameter
-unfoldable pub own_row : List ℕ → List ℕ → List ℕ → Saying
-own_row name flags value = if is_empty flags then Sets (text_param name value) else flagged name (number_of flags) value
+-- a row of the driver's key itself sets a parameter; no flags are those of a string
+unfoldable pub driver_key_row : List ℕ → List ℕ → List ℕ → Saying
+driver_key_row name flags value = if is_empty flags then Sets (text_param name value) else typed_row name (number_of flags) value
 
 abbrev pub is_zero : Option ℕ → Bool
 is_zero None = false
@@ -43,7 +44,7 @@ default_row subkey name flags value =
     if is_same params_key (take 11 subkey) && (is_same (codes "default") name && is_zero (number_of flags)) then Defaults (text_param (drop 11 subkey) value) else Nothing
 
 abbrev pub row : List ℕ → List ℕ → List ℕ → List ℕ → List ℕ → Saying
-row root subkey name flags value = if is_same (codes "HKR") root then (if is_empty subkey then own_row name flags value else default_row subkey name flags value) else Nothing
+row root subkey name flags value = if is_same (codes "HKR") root then (if is_empty subkey then driver_key_row name flags value else default_row subkey name flags value) else Nothing
 
 -- what a line says of the parameters
 unfoldable pub saying : Strings → Line → Saying

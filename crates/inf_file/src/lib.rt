@@ -7,6 +7,7 @@ mod fold;
 mod gather;
 mod gathered;
 mod joining;
+mod laws;
 mod models;
 mod numbers;
 mod param;
@@ -20,10 +21,14 @@ mod sections;
 mod strings;
 mod text;
 
+pub use laws::{
+    each_name_comes_once, first_fault_is_named, first_model_is_taken, last_row_counts,
+    numbers_are_spelled,
+};
 pub use param::{Param, ParamRefusal, ParamValue};
 pub use refusal::InfRefusal;
 pub use sections::Inf;
-pub use text::written_is_read;
+pub use text::{each_section_comes_once, laid_out_is_read, written_is_read};
 
 #[cfg(test)]
 mod tests;

@@ -6,7 +6,7 @@ ghost use Rattle.std.specs.Option.{option_copied};
 ghost use Rattle.inf_file.specs.Keyed.{string_in};
 ghost use Rattle.inf_file.specs.Sections.{is_same, has_key, value_at, place_named, lines_at};
 ghost use Rattle.inf_file.specs.Strings.{replaced};
-ghost use Rattle.inf_file.specs.Models.{is_good_signature, is_signed_by, is_signed, dotted, usual_names, first_place, is_nt_x86, decoration_place, decorated_place, models_place, has_id, id_among, earlier, if_has_id, model_of, install_place};
+ghost use Rattle.inf_file.specs.Models.{is_good_signature, is_signed_by, is_signed, dotted, usual_names, first_place, is_nt_x86, decoration_place, decorated_place, models_place, has_id, earlier, earlier_with_id, model_of, install_place};
 
 use crate::fold::{is_same, is_word};
 use crate::repeats::{push_place, thinned};
@@ -158,16 +158,12 @@ fn models_place(
     }
 }
 
-/// Whether one of the values is the hardware id.
-fn id_among(
-    alloc: Global,
-    strings: &Strings,
-    id: &[u16],
-    values: &[Wide],
-) -> Result<bool, OutOfMemory>
-    ensures { IfOk result (λ b. b ≡ id_among (string_in strings.now) id.now values.now) }
+/// Whether a model line has the hardware id behind its install section.
+#[tactic(auto, unfolding(crate::specs::Models::has_id))]
+fn has_id(alloc: Global, strings: &Strings, id: &[u16], model: &Line) -> Result<bool, OutOfMemory>
+    ensures { IfOk result (λ b. b ≡ has_id (string_in strings.now) id.now model.now) }
 {
-    for value in values {
+    for value in behind_first(model.values()) {
         let text = strings.replaced(alloc, value.as_slice())?;
         if is_same(id, text.as_slice()) {
             return Ok(true);
@@ -176,18 +172,18 @@ fn id_among(
     Ok(false)
 }
 
-/// The earlier of two lines, where the second has the hardware id.
-#[tactic(auto, unfolding(crate::specs::Models::has_id, crate::specs::Models::if_has_id))]
-fn if_has_id<'a>(
+/// The earlier of two model lines, where the second has the hardware id.
+#[tactic(auto, unfolding(crate::specs::Models::earlier_with_id))]
+fn earlier_with_id<'a>(
     alloc: Global,
     strings: &Strings,
     id: &[u16],
     best: Option<&'a Line>,
     line: &'a Line,
 ) -> Result<Option<&'a Line>, OutOfMemory>
-    ensures { IfOk result (λ l. option_copied l ≡ if_has_id (string_in strings.now) id.now (option_copied best.entry) line.now) }
+    ensures { IfOk result (λ l. option_copied l ≡ earlier_with_id (string_in strings.now) id.now (option_copied best.entry) line.now) }
 {
-    if !id_among(alloc, strings, id, behind_first(line.values()))? {
+    if !has_id(alloc, strings, id, line)? {
         return Ok(best);
     }
     match best {
@@ -210,11 +206,11 @@ fn earliest<'a>(
     first: Option<&'a Line>,
     lines: &'a [Line],
 ) -> Result<Option<&'a Line>, OutOfMemory>
-    ensures { IfOk result (λ l. option_copied l ≡ fold (if_has_id (string_in strings.now) id.now) (option_copied first.entry) lines.now) }
+    ensures { IfOk result (λ l. option_copied l ≡ fold (earlier_with_id (string_in strings.now) id.now) (option_copied first.entry) lines.now) }
 {
     let mut best = first;
     for line in lines {
-        best = if_has_id(alloc, strings, id, best, line)?;
+        best = earlier_with_id(alloc, strings, id, best, line)?;
     }
     Ok(best)
 }
@@ -227,7 +223,7 @@ fn earliest_at<'a>(
     id: &[u16],
     places: &[usize],
 ) -> Result<Option<&'a Line>, OutOfMemory>
-    ensures { IfOk result (λ l. option_copied l ≡ fold (λ best place. fold (if_has_id (string_in strings.now) id.now) best (lines_at inf.now place)) None places.now) }
+    ensures { IfOk result (λ l. option_copied l ≡ fold (λ best place. fold (earlier_with_id (string_in strings.now) id.now) best (lines_at inf.now place)) None places.now) }
 {
     let mut best: Option<&Line> = None;
     for place in places {

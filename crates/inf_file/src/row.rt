@@ -4,7 +4,7 @@ ghost use Rattle.std.specs.Prelude.{◌≡◌, take, drop, IfOk};
 ghost use Rattle.inf_file.specs.Keyed.{string_in};
 ghost use Rattle.inf_file.specs.Sections.{is_same};
 ghost use Rattle.inf_file.specs.Numbers.{number_of};
-ghost use Rattle.inf_file.specs.Rows.{is_zero, params_key, own_row, default_row, row, saying, is_bad};
+ghost use Rattle.inf_file.specs.Rows.{is_zero, params_key, driver_key_row, default_row, row, saying, is_bad};
 
 use crate::fold::is_word;
 use crate::numbers::number_of;
@@ -33,9 +33,9 @@ const NUMBER: u32 = 0x0001_0001;
 const PARAMS_KEY_LEN: usize = 11;
 
 /// A row of the driver's own key.
-#[tactic(auto, unfolding(crate::specs::Rows::own_row))]
-fn own_row(name: Wide, flags: &[u16], value: Wide) -> Saying
-    ensures { result ≡ own_row name flags.now value }
+#[tactic(auto, unfolding(crate::specs::Rows::driver_key_row))]
+fn driver_key_row(name: Wide, flags: &[u16], value: Wide) -> Saying
+    ensures { result ≡ driver_key_row name flags.now value }
 {
     if flags.is_empty() {
         return Saying::Sets(Param {
@@ -122,7 +122,7 @@ fn row(
         return Ok(Saying::Nothing);
     }
     if subkey.is_empty() {
-        Ok(own_row(name, flags, value))
+        Ok(driver_key_row(name, flags, value))
     } else {
         default_row(alloc, subkey, name.as_slice(), flags, value)
     }

@@ -1,4 +1,5 @@
 use crate::param::{Param, ParamRefusal, ParamValue};
+use crate::refusal::InfRefusal;
 use crate::sections::Inf;
 use std::alloc::{AllocError, Global};
 use std::process::Abort;
@@ -260,4 +261,49 @@ fn numbers(rt: HostRuntime) -> Result<(), Fail> {
     no_number(&rt, alloc, "0x")?;
     no_number(&rt, alloc, "0X1")?;
     no_number(&rt, alloc, "")
+}
+
+#[test]
+fn inf_refusal_texts(rt: HostRuntime) -> Result<(), Fail> {
+    for (refusal, want) in [
+        (InfRefusal::OutOfMemory, "out of memory"),
+        (InfRefusal::TooLong, "the INF file is too long"),
+        (InfRefusal::BadText(12), "the byte at 12 is no text"),
+        (InfRefusal::Line(7), "line 7 is no line of an INF file"),
+    ] {
+        let text = format!(in rt.alloc(); "{refusal}")?;
+        assert_eq!(rt; text.as_str(), want);
+    }
+    Ok(())
+}
+
+#[test]
+fn param_refusal_texts(rt: HostRuntime) -> Result<(), Fail> {
+    for (refusal, want) in [
+        (ParamRefusal::OutOfMemory, "out of memory"),
+        (
+            ParamRefusal::NoVersion,
+            "the INF has no signature of Windows",
+        ),
+        (
+            ParamRefusal::NoModel,
+            "the INF has no model of the hardware id",
+        ),
+        (
+            ParamRefusal::NoInstall,
+            "the INF has no install section of the model",
+        ),
+        (
+            ParamRefusal::NoString(12),
+            "line 12 of the INF has a key that is not in its strings",
+        ),
+        (
+            ParamRefusal::BadValue(7),
+            "line 7 of the INF has no number as its value",
+        ),
+    ] {
+        let text = format!(in rt.alloc(); "{refusal}")?;
+        assert_eq!(rt; text.as_str(), want);
+    }
+    Ok(())
 }

@@ -1,11 +1,12 @@
 //! Reading the text of an INF file.
 
-ghost use Rattle.std.specs.Prelude.{ℕ, List, ◌≤◌, ◌≡◌, ◌<◌, [], None, false, length, IfOk, IfErr, ◌⊎◌};
+ghost use Rattle.std.specs.Prelude.{ℕ, List, ◌≤◌, ◌≡◌, ◌<◌, [], None, false, length, IfOk, IfErr, ◌⊎◌, AllPairs};
 ghost use Rattle.std.specs.Str.Lines.{lines};
-ghost use Rattle.inf_file.specs.Sections.{Section as InfSection};
+ghost use Rattle.inf_file.specs.Sections.{Section as InfSection, is_same};
 ghost use Rattle.inf_file.specs.Outcome.{Gives};
 ghost use Rattle.inf_file.specs.Characters.{characters};
 ghost use Rattle.inf_file.specs.Written.{written, AreSectionsFrom};
+ghost use Rattle.inf_file.specs.Layout.{Layout as LineLayout, IsLayout, laid_out};
 ghost use Rattle.inf_file.specs.Joining.{joined};
 ghost use Rattle.inf_file.specs.Quotes.{is_open, trimmed_start, cut};
 ghost use Rattle.inf_file.specs.Reading.{with_header, entry, with_entry, with_joined, with_all, sections_of_lines, sections_of, IsWithin};
@@ -147,8 +148,19 @@ impl Inf {
     }
 }
 
+/// No two sections of an INF file have one name.
+pub fn each_section_comes_once()
+    ensures { (bytes : List ℕ) (ss : List InfSection) → sections_of bytes ≡ Ok ss → AllPairs (λ s t. is_same s.name t.name ≡ false) ss }
+{}
+
 /// An INF file has its sections as they were written, where each name, key and value stands in
 /// quotes: whatever else these hold beside line feeds, as blanks, separators and quotation marks.
 pub fn written_is_read()
     ensures { (bytes : List ℕ) (ss : List InfSection) → length bytes ≤ 1048576 → characters bytes ≡ Ok (written ss) → AreSectionsFrom 1 [] ss → sections_of bytes ≡ Ok ss }
+{}
+
+/// The same holds whatever layout each line has: blanks around brackets, names, keys and values,
+/// words without quotes, a comment at its end, and a line feed with a carriage return or without.
+pub fn laid_out_is_read()
+    ensures { (layout : ℕ → LineLayout) → ((n : ℕ) → IsLayout (layout n)) → (bytes : List ℕ) (ss : List InfSection) → length bytes ≤ 1048576 → characters bytes ≡ Ok (laid_out layout 1 ss) → AreSectionsFrom 1 [] ss → sections_of bytes ≡ Ok ss }
 {}

@@ -1,12 +1,12 @@
 //! Where lines are written.
 
-ghost use Rattle.std.specs.Prelude.{◌≡◌, ℕ, ◌≤◌, ◌++◌, List, Option, Some, None, length, take, IfOk, OnErr, IsErrOf};
+ghost use Rattle.std.specs.Prelude.{◌≡◌, ℕ, ◌≤◌, ◌++◌, List, Option, Some, None, length, take, IfOk, OnOk, OnErr, IsErrOf};
 ghost use Rattle.nd_base.specs.Files.{Rose};
 
 use crate::fault::IoFault;
 
 /// Where lines are written. An implementation may tell what was written; it always has a count of
-/// faults that never falls.
+/// faults, which never falls, and which a write that succeeds leaves.
 pub trait Sink {
     ghost written: { Self → Option (List ℕ) };
 
@@ -22,5 +22,6 @@ pub trait Sink {
         ensures err { OnErr result (written self.new ≡ written self.old) }
         ensures untold { written self.old ≡ None → written self.new ≡ None }
         ensures later { faults self.old ≤ faults self.new }
-        ensures cause { IsErrOf result IoFault.Failed → Rose (faults self.old) (faults self.new) };
+        ensures cause { IsErrOf result IoFault.Failed → Rose (faults self.old) (faults self.new) }
+        ensures quiet { OnOk result (faults self.new ≡ faults self.old) };
 }

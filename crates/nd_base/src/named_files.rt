@@ -7,7 +7,8 @@ ghost use Rattle.nd_base.specs.Files.{Kept, bytes_at, Rose, OnlyReads, OnlyWrite
 use crate::fault::IoFault;
 
 /// Named files, each a list of bytes. An implementation may tell the bytes (`kept`); it always has
-/// two counts of faults that never fall: of size and read, and of create and append.
+/// two counts of faults, of size and read, and of create and append. They never fall, and a call
+/// that succeeds leaves them.
 pub trait Files {
     ghost kept: { Self → Option Kept };
 
@@ -24,6 +25,7 @@ pub trait Files {
         requires { IsTrue (may_read self.old name.now) }
         ensures known { IfOk result (λ n. (m : Kept) → kept self.old ≡ Some m → n ≡ length (bytes_at m name.now)) }
         ensures cause { IsErrOf result IoFault.Failed → Rose (read_faults self.old) (read_faults self.new) }
+        ensures quiet { OnOk result (read_faults self.new ≡ read_faults self.old) }
         ensures only { OnlyReads kept read_faults write_faults may_read may_write self.old self.new };
 
     /// Reads bytes of a file from the byte `at` on into the front of `buf`, and answers how many
@@ -34,6 +36,7 @@ pub trait Files {
         ensures known { IfOk result (λ n. (m : Kept) → kept self.old ≡ Some m
             → ReadsFrom (bytes_at m name.now) at n (length buf.old) buf.new) }
         ensures cause { IsErrOf result IoFault.Failed → Rose (read_faults self.old) (read_faults self.new) }
+        ensures quiet { OnOk result (read_faults self.new ≡ read_faults self.old) }
         ensures only { OnlyReads kept read_faults write_faults may_read may_write self.old self.new };
 
     /// Makes a file of no bytes, in place of one that has the name.
@@ -43,6 +46,7 @@ pub trait Files {
         ensures err { OnErr result (kept self.new ≡ kept self.old) }
         ensures untold { kept self.old ≡ None → kept self.new ≡ None }
         ensures cause { IsErrOf result IoFault.Failed → Rose (write_faults self.old) (write_faults self.new) }
+        ensures quiet { OnOk result (write_faults self.new ≡ write_faults self.old) }
         ensures only { OnlyWrites read_faults write_faults may_read may_write self.old self.new };
 
     /// Puts bytes from the front of `piece` behind the last byte of a file, and answers how many:
@@ -56,5 +60,6 @@ pub trait Files {
         ensures err { OnErr result (kept self.new ≡ kept self.old) }
         ensures untold { kept self.old ≡ None → kept self.new ≡ None }
         ensures cause { IsErrOf result IoFault.Failed → Rose (write_faults self.old) (write_faults self.new) }
+        ensures quiet { OnOk result (write_faults self.new ≡ write_faults self.old) }
         ensures only { OnlyWrites read_faults write_faults may_read may_write self.old self.new };
 }

@@ -79,8 +79,11 @@ fn errors(rt: HostRuntime) -> Result<(), Fail> {
         IoFault::from(OutOfMemory::from(AllocError)),
         IoFault::Memory
     );
-    let text = format!(in rt.alloc(); "{OutOfMemory}, {}", IoFault::Failed)?;
-    assert_eq!(rt; text.as_str(), "out of memory, the device failed");
+    let text = format!(in rt.alloc(); "{OutOfMemory}, {}, {}", IoFault::Failed, IoFault::Memory)?;
+    assert_eq!(rt;
+        text.as_str(),
+        "out of memory, the device failed, out of memory"
+    );
     Ok(())
 }
 
@@ -284,5 +287,36 @@ fn layouts_have_a_longest_text(rt: HostRuntime) -> Result<(), Fail> {
     assert_eq!(rt; refusal(text.as_slice()), missing);
     text.push(b'\n')?;
     assert_eq!(rt; refusal(text.as_slice()), Some(LayoutRefusal::TooLong));
+    Ok(())
+}
+
+#[test]
+fn layout_refusals_have_texts(rt: HostRuntime) -> Result<(), Fail> {
+    for (refusal, text) in [
+        (LayoutRefusal::TooLong, "the layout file is too long"),
+        (
+            LayoutRefusal::Line(7),
+            "line 7 of the layout is not `name = offset`",
+        ),
+        (
+            LayoutRefusal::UnknownName(7),
+            "line 7 of the layout names no field",
+        ),
+        (
+            LayoutRefusal::Repeated(7),
+            "line 7 of the layout names a field again",
+        ),
+        (
+            LayoutRefusal::Missing(Field::PacketHead),
+            "the layout has no offset of PacketHead",
+        ),
+        (
+            LayoutRefusal::Overlap(Field::OobStatus, Field::BlockEthDb),
+            "in the layout OobStatus and BlockEthDb share a byte",
+        ),
+    ] {
+        let shown = format!(in rt.alloc(); "{refusal}")?;
+        assert_eq!(rt; shown.as_str(), text);
+    }
     Ok(())
 }

@@ -1,4 +1,5 @@
--- One mapped byte of guest memory. Rights are those of a page of the IA-32 manual (Intel SDM volume 3, 4.6), kept for each byte.
+-- One mapped byte of guest memory. Its rights are those that IMAGE_SCN_MEM_READ, IMAGE_SCN_MEM_WRITE and IMAGE_SCN_MEM_EXECUTE give to a section
+-- (Microsoft PE/COFF specification, "Section Flags"), kept for each byte.
 use Rattle.std.specs.Prelude.{ℕ, Bool, Option, None, Some, refl}
 use Rattle.std.specs.Coded.{Coded, code_by, coded×, coded_ℕ, coded_bool}
 use Rattle.nd_mem.specs.declared.Rights.{Rights}

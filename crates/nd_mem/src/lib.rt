@@ -16,7 +16,8 @@ mod regions;
 /// place of memory.
 const END: u64 = 0xF000_0000;
 
-/// What may be done with a byte, as with a page of the IA-32 manual (Intel SDM volume 3, 4.6).
+/// What may be done with a byte, as IMAGE_SCN_MEM_READ, IMAGE_SCN_MEM_WRITE and
+/// IMAGE_SCN_MEM_EXECUTE allow it of a section (Microsoft PE/COFF specification, "Section Flags").
 #[derive(Clone, Copy, Debug, PartialEq, Eq)]
 pub struct Rights {
     pub read: bool,
@@ -101,6 +102,7 @@ impl Memory {
         rights: Rights,
     ) -> Result<(), RegionRefusal>
         ensures refusal { IfErr result (λ e. e ≢ RegionRefusal.OutOfMemory → region_refusal (map.get self.old) at.0 len ≡ Some e) }
+        ensures memory { IfErr result (λ e. e ≡ RegionRefusal.OutOfMemory → region_refusal (map.get self.old) at.0 len ≡ None) }
         ensures ok { OnOk result ((region_refusal (map.get self.old) at.0 len ≡ None)
             × (self.new ≡ zeros_from self.old at.0 len rights)) }
         ensures err { OnErr result (self.new ≡ self.old) }

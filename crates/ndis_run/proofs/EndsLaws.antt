@@ -39,14 +39,23 @@ one_form words ShowInf RunZero a b = let e = sym a.2.form ∙ b.2.form in absurd
 one_form words ShowInf ShowImage a b = let e = sym a.2.form ∙ b.1.form in absurd (cc)
 one_form words ShowInf ShowInf a b = refl
 
+-- 4 comes only where a create, append or write failed
+pub unwritten : (sys log : List ℕ) (status : ℕ) (kept kept' : Option Kept) (reads reads' writes writes' : ℕ) (before after : Option (List ℕ)) (faults faults' : ℕ)
+    → EndsZero sys log status kept kept' reads reads' writes writes' before after faults faults' → status ≡ 4 → Rose writes writes' ⊎ Rose faults faults'
+unwritten sys log status kept kept' reads reads' writes writes' before after faults faults' ends four =
+    elim (ends.broke_off (inl four)) [
+      | inl off ↦ elim off.2.is_last [ inl a ↦ inr a.2 | inr b ↦ let ten = b.0 in absurd (omega arith) ]
+      | inr stops ↦ elim stops.is_last [ inl a ↦ inl a.1 | inr b ↦ let ten = b.0 in absurd (omega arith) ]
+    ]
+
 pub complete : (sys log : List ℕ) (status : ℕ) (m : Kept) (kept : Option Kept) (reads reads' writes writes' : ℕ) (before after : Option (List ℕ)) (faults faults' : ℕ) (image : ImageParts)
     → EndsZero sys log status (Some m) kept reads reads' writes writes' before after faults faults'
     → judged (bytes_at m sys) ≡ Ok image → (Rose reads reads' → ⊥) → (Rose writes writes' → ⊥) → (Rose faults faults' → ⊥) → (status < 2) ⊎ (status ≡ 10)
 complete sys log status m kept reads reads' writes writes' before after faults faults' image ends taken r w f =
     elim ends.others [
       | inl small ↦ inl small
-      | inr (inl e) ↦ absurd (r (ends.unread e).0)
-      | inr (inr (inl e)) ↦ absurd (elim (ends.unwritten e) [ inl a ↦ w a | inr b ↦ f b ])
+      | inr (inl e) ↦ absurd (r (ends.unread e).1.cause)
+      | inr (inr (inl e)) ↦ absurd (elim (unwritten sys log status (Some m) kept reads reads' writes writes' before after faults faults' ends e) [ inl a ↦ w a | inr b ↦ f b ])
       | inr (inr (inr (inl e))) ↦ let refusal = (ends.refused e).1.of_bytes m refl in let clash = sym taken ∙ refusal in absurd (cc)
       | inr (inr (inr (inr e))) ↦ inr e
     ]

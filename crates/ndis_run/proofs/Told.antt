@@ -1,5 +1,5 @@
 -- What is known of a command's status and of what it printed.
-use Rattle.std.proofs.Common.{◌≡◌, ℕ, ◌≤◌, ◌<◌, ◌⊎◌, inl, inr, List, map, length, get_or, string_bytes, lit<, sym, ap, ◌∙◌, arith, Option, codes, zero-le, refl, Some, ◌++◌, take, subst, [], ◌∷◌}
+use Rattle.std.proofs.Common.{◌≡◌, ℕ, ◌≤◌, ◌<◌, ◌⊎◌, inl, inr, List, map, length, get_or, string_bytes, lit<, sym, ap, ◌∙◌, arith, Option, codes, zero-le, refl, Some, ◌++◌, take, subst}
 use Rattle.std.proofs.lemmas.List.{append-nil}
 use Rattle.std.proofs.Math.ListN.{get_or-map}
 use Rattle.std.proofs.lemmas.List.{length-map}
@@ -8,10 +8,10 @@ use Rattle.std.specs.Global.{Global}
 use Rattle.ndis_run.specs.Words.{IsRunZero, IsShowImage, IsShowInf}
 use Rattle.driver_entry.specs.declared.session.Ending.{Ending}
 use Rattle.driver_entry.specs.declared.session.Ending.TheVariants.{Left, Faulting, Spent}
-use Rattle.ndis_run.specs.Tool.{status_of, AddsFronts, BreaksOff}
-use Rattle.ndis_run.specs.Transfer.{AddsFront}
-use Rattle.ndis_run.specs.Printed.{write_line}
-use Rattle.nd_base.specs.Files.{Rose}
+use Rattle.ndis_run.specs.Tool.{status_of, AddsFronts, BreaksOff, Logs, LogsFront, Stops, TellsRun, TellsUnread}
+use Rattle.ndis_run.specs.Transfer.{Adds, AddsFront}
+use Rattle.ndis_run.specs.Printed.{driver_entry_line, read_line, write_line}
+use Rattle.nd_base.specs.Files.{Kept, Rose}
 
 -- a count that rose has risen later too
 pub Rose-later : (before mid now : ℕ) → before ≤ mid → mid ≤ now → Rose before mid → Rose before now
@@ -31,6 +31,9 @@ no_other result status known small = (λ e. grind arith, λ e. grind arith)
 
 pub others_of : (result status : ℕ) → (result ≡ status) ⊎ (result ≡ 4) ⊎ (result ≡ 10) → status < 2 → (result < 2) ⊎ (result ≡ 3) ⊎ (result ≡ 4) ⊎ (result ≡ 5) ⊎ (result ≡ 10)
 others_of result status known small = grind arith
+
+pub told_of : (result status : ℕ) → (result ≡ status) ⊎ (result ≡ 4) ⊎ (result ≡ 10) → (result < 2) ⊎ (result ≡ 3) ⊎ (result ≡ 5) → result ≡ status
+told_of result status known which = grind arith
 
 -- ---- words
 
@@ -74,28 +77,38 @@ last_alone before after line last of_last = λ first is.
     let b = of_last first is in
     (0, b.0, zero-le, b.1, b.2 ∙ ap (λ xs. Some (xs ++ take b.0 last)) (sym (append-nil first)))
 
-pub off_by_memory : (name line : List ℕ) (status : ℕ) (before mid after : Option (List ℕ)) → AddsFront before mid line → AddsFront mid after (codes "memory\n") → status ≡ 10 → BreaksOff name line status before after
-off_by_memory name line status before mid after of_line of_last ten = record { last = codes "memory\n"; is_last = inr (ten, inl refl); fronts = fronts_of before mid after line _ of_line of_last }
+pub off_by_memory : (line : List ℕ) (status : ℕ) (before mid after : Option (List ℕ)) (faults faults' : ℕ) → AddsFront before mid line → AddsFront mid after (codes "memory\n") → status ≡ 10 → BreaksOff line status before after faults faults'
+off_by_memory line status before mid after faults faults' of_line of_last ten = record { last = codes "memory\n"; is_last = inr (ten, refl); fronts = fronts_of before mid after line _ of_line of_last }
 
-pub off_by_print : (name line : List ℕ) (status : ℕ) (before mid after : Option (List ℕ)) → AddsFront before mid line → AddsFront mid after (codes "write -\n") → status ≡ 4 → BreaksOff name line status before after
-off_by_print name line status before mid after of_line of_last four = record { last = write_line (codes "-"); is_last = inl (four, inr refl); fronts = fronts_of before mid after line _ of_line of_last }
+pub off_by_print : (line : List ℕ) (status : ℕ) (before mid after : Option (List ℕ)) (faults faults' : ℕ) → AddsFront before mid line → AddsFront mid after (codes "write -\n") → status ≡ 4 → Rose faults faults' → BreaksOff line status before after faults faults'
+off_by_print line status before mid after faults faults' of_line of_last four rose = record { last = write_line (codes "-"); is_last = inl (four, refl, rose); fronts = fronts_of before mid after line _ of_line of_last }
 
-pub off_at_once : (name line : List ℕ) (status : ℕ) (before after : Option (List ℕ)) → AddsFront before after (codes "memory\n") → status ≡ 10 → BreaksOff name line status before after
-off_at_once name line status before after of_last ten = record { last = codes "memory\n"; is_last = inr (ten, inl refl); fronts = last_alone before after line _ of_last }
-
-pub off_by_name : (name line : List ℕ) (status : ℕ) (before after : Option (List ℕ)) → AddsFront before after (write_line name) → (status ≡ 4) ⊎ (status ≡ 10) → BreaksOff name line status before after
-off_by_name name line status before after of_last is = record { last = write_line name; is_last = elim is [ inl four ↦ inl (four, inl refl) | inr ten ↦ inr (ten, inr refl) ]; fronts = last_alone before after line _ of_last }
+pub off_at_once : (line : List ℕ) (status : ℕ) (before after : Option (List ℕ)) (faults faults' : ℕ) → AddsFront before after (codes "memory\n") → status ≡ 10 → BreaksOff line status before after faults faults'
+off_at_once line status before after faults faults' of_last ten = record { last = codes "memory\n"; is_last = inr (ten, refl); fronts = last_alone before after line _ of_last }
 
 -- a text that is known by another name
-pub off_same : (name : List ℕ) (line text : List ℕ) (status : ℕ) (before after : Option (List ℕ)) → text ≡ line → BreaksOff name text status before after → BreaksOff name line status before after
-off_same name line text status before after same off = subst (λ (l : List ℕ). BreaksOff name l status before after) same off
-
-pub off_by_text : (name line text : List ℕ) (status : ℕ) (before after : Option (List ℕ)) → text ≡ write_line name → AddsFront before after text → (status ≡ 4) ⊎ (status ≡ 10) → BreaksOff name line status before after
-off_by_text name line text status before after same front is = off_by_name name line status before after (subst (λ (l : List ℕ). AddsFront before after l) same front) is
+pub off_same : (line text : List ℕ) (status : ℕ) (before after : Option (List ℕ)) (faults faults' : ℕ) → text ≡ line → BreaksOff text status before after faults faults' → BreaksOff line status before after faults faults'
+off_same line text status before after faults faults' same off = subst (λ (l : List ℕ). BreaksOff l status before after faults faults') same off
 
 pub front_same : (before after : Option (List ℕ)) (text line : List ℕ) → text ≡ line → AddsFront before after text → AddsFront before after line
 front_same before after text line same front = subst (λ (l : List ℕ). AddsFront before after l) same front
 
-pub whole_front : (xs : List ℕ) → take (length xs) xs ≡ xs
-whole_front [] = refl
-whole_front (x ∷ xs) = ap (λ ys. x ∷ ys) (whole_front xs)
+pub adds_same : (before after : Option (List ℕ)) (text line : List ℕ) → text ≡ line → Adds before after text → Adds before after line
+adds_same before after text line same added = subst (λ (l : List ℕ). Adds before after l) same added
+
+-- where a create or append failed: LOG is named, or memory is wanted for that
+pub stops : (sys log : List ℕ) (status : ℕ) (kept kept' : Option Kept) (writes writes' : ℕ) (before after : Option (List ℕ)) (faults faults' : ℕ)
+    → ((m : Kept) → kept ≡ Some m → (kept' ≡ Some m) ⊎ LogsFront m sys log kept') → Rose writes writes'
+    → AddsFront before after (write_line log) ⊎ ((status ≡ 10) × AddsFront before after (codes "memory\n"))
+    → (status ≡ 4 → (Rose faults faults' → ⊥) → Adds before after (write_line log))
+    → Stops sys log status kept kept' writes writes' before after faults faults'
+stops sys log status kept kept' writes writes' before after faults faults' files rose (inl front) told =
+    record { files = files; last = write_line log; is_last = inl (refl, rose); front = front; whole = told }
+stops sys log status kept kept' writes writes' before after faults faults' files rose (inr (ten, front)) told =
+    record { files = files; last = codes "memory\n"; is_last = inr (ten, refl); front = front; whole = λ four none. absurd (omega arith) }
+
+pub tells_run : (sys log : List ℕ) (kept kept' : Option Kept) (ending : Ending) (sum : ℕ) → ((m : Kept) → kept ≡ Some m → Logs m sys log kept' ending sum) → TellsRun sys log kept kept' ending (driver_entry_line ending sum)
+tells_run sys log kept kept' ending sum logs = record { sum = sum; is_line = refl; logs = logs }
+
+pub tells_unread : (sys : List ℕ) (kept kept' : Option Kept) (reads reads' : ℕ) → Rose reads reads' × (kept' ≡ kept) → TellsUnread sys kept kept' reads reads' (read_line sys)
+tells_unread sys kept kept' reads reads' facts = record { is_line = refl; cause = facts.0; same = facts.1 }

@@ -79,8 +79,8 @@ pub fn tell<O: Sink>(out: &mut O, text: &[u8], status: u8) -> u8
     requires remembered { status ≢ 10 }
     ensures known { (result ≡ status) ⊎ (result ≡ 4) ⊎ (result ≡ 10) }
     ensures told { result ≡ status → Adds (O.written out.old) (O.written out.new) text.now }
-    ensures untold { result ≡ 4 → Rose (O.faults out.old) (O.faults out.new) }
-    ensures closing { (name : List ℕ) → (result ≡ 4) ⊎ (result ≡ 10) → BreaksOff name text.now result (O.written out.old) (O.written out.new) }
+    ensures quiet { result ≡ status → O.faults out.new ≡ O.faults out.old }
+    ensures broke_off { (result ≡ 4) ⊎ (result ≡ 10) → BreaksOff text.now result (O.written out.old) (O.written out.new) (O.faults out.old) (O.faults out.new) }
 {
     match print(out, text) {
         Ok(()) => status,
@@ -93,8 +93,8 @@ pub fn tell<O: Sink>(out: &mut O, text: &[u8], status: u8) -> u8
 pub fn tell_end<O: Sink>(alloc: Global, out: &mut O, ending: Ending, charged: u32) -> u8
     ensures known { (result ≡ status_of ending) ⊎ (result ≡ 4) ⊎ (result ≡ 10) }
     ensures told { result < 2 → Adds (O.written out.old) (O.written out.new) (driver_entry_line ending charged) }
-    ensures untold { result ≡ 4 → Rose (O.faults out.old) (O.faults out.new) }
-    ensures closing { (name : List ℕ) → (result ≡ 4) ⊎ (result ≡ 10) → BreaksOff name (driver_entry_line ending charged) result (O.written out.old) (O.written out.new) }
+    ensures quiet { result < 2 → O.faults out.new ≡ O.faults out.old }
+    ensures broke_off { (result ≡ 4) ⊎ (result ≡ 10) → BreaksOff (driver_entry_line ending charged) result (O.written out.old) (O.written out.new) (O.faults out.old) (O.faults out.new) }
 {
     let status = match ending {
         Ending::Left(_) => 0,
@@ -111,8 +111,8 @@ pub fn tell_end<O: Sink>(alloc: Global, out: &mut O, ending: Ending, charged: u3
 pub fn tell_unread<O: Sink>(alloc: Global, out: &mut O, sys: &str) -> u8
     ensures known { (result ≡ 3) ⊎ (result ≡ 4) ⊎ (result ≡ 10) }
     ensures told { result ≡ 3 → Adds (O.written out.old) (O.written out.new) (read_line sys.now) }
-    ensures untold { result ≡ 4 → Rose (O.faults out.old) (O.faults out.new) }
-    ensures closing { (name : List ℕ) → (result ≡ 4) ⊎ (result ≡ 10) → BreaksOff name (read_line sys.now) result (O.written out.old) (O.written out.new) }
+    ensures quiet { result ≡ 3 → O.faults out.new ≡ O.faults out.old }
+    ensures broke_off { (result ≡ 4) ⊎ (result ≡ 10) → BreaksOff (read_line sys.now) result (O.written out.old) (O.written out.new) (O.faults out.old) (O.faults out.new) }
 {
     match read_line(alloc, sys) {
         Ok(line) => tell(out, line.as_bytes(), UNREAD),
@@ -124,7 +124,7 @@ pub fn tell_unread<O: Sink>(alloc: Global, out: &mut O, sys: &str) -> u8
 pub fn tell_unwritten<O: Sink>(alloc: Global, out: &mut O, name: &str) -> u8
     ensures known { (result ≡ 4) ⊎ (result ≡ 10) }
     ensures told { result ≡ 4 → (Rose (O.faults out.old) (O.faults out.new) → ⊥) → Adds (O.written out.old) (O.written out.new) (write_line name.now) }
-    ensures closing { (line : List ℕ) → BreaksOff name.now line result (O.written out.old) (O.written out.new) }
+    ensures front { AddsFront (O.written out.old) (O.written out.new) (write_line name.now) ⊎ ((result ≡ 10) × AddsFront (O.written out.old) (O.written out.new) (codes "memory\n")) }
 {
     let Ok(line) = write_line(alloc, name) else {
         return tell_memory(out);

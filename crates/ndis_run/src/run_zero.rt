@@ -1,6 +1,6 @@
 //! `run0 SYS LOG`: DriverEntry of an image alone.
 
-ghost use Rattle.std.specs.Prelude.{◌≡◌, [], ◌≢◌, ℕ, ◌<◌, ◌⊎◌, Some, None, Ok, Err, IfOk, IfErr, OnErr, IsTrue, List, string_bytes};
+ghost use Rattle.std.specs.Prelude.{◌≡◌, [], ◌≢◌, ℕ, ◌<◌, ◌⊎◌, Some, None, Ok, Err, IfOk, IfErr, OnOk, OnErr, IsTrue, List, string_bytes};
 ghost use Rattle.std.specs.FinMap.{insert};
 ghost use Rattle.nd_base.specs.Files.{Kept, bytes_at, Rose, OnlyReads, OnlyWrites};
 ghost use Rattle.pe_image.specs.Image.{ImageParts};
@@ -9,7 +9,7 @@ ghost use Rattle.ndis_run.specs.Printed.{driver_entry_line, ending_text};
 ghost use Rattle.driver_entry.specs.Run.{Inputs};
 ghost use Rattle.ndis_run.specs.Transfer.{WritesFront};
 ghost use Rattle.ndis_run.specs.Shown.{served, judged};
-ghost use Rattle.ndis_run.specs.Tool.{HasRun, IsRefusalLine, LeavesFront, usual};
+ghost use Rattle.ndis_run.specs.Tool.{HasRun, IsRefusalLine, Logs, LogsFront, TellsRefusal, usual};
 
 use crate::transfer::{ReadFailure, read_file, write_file};
 use driver_entry::{Ending, Session, text_of};
@@ -61,7 +61,7 @@ fn refused(alloc: Global, refusal: PeRefusal) -> Failure
 /// An image whose imports are all served, of which there are none yet.
 fn served(alloc: Global, image: Image) -> Result<Image, Failure>
     ensures ok { IfOk result (λ i. (served image image.imports ≡ Ok i) × (i.imports ≡ [])) }
-    ensures refused { IfErr result (λ e. (line : List ℕ) → e ≡ Failure.Refused line → served image image.imports ≡ Err line) }
+    ensures refused { IfErr result (λ e. (line : List ℕ) → e ≡ Failure.Refused line → IsRefusalLine line × (served image image.imports ≡ Err line)) }
     ensures others { IfErr result (λ e. (e ≡ Failure.Unread → ⊥) × (e ≡ Failure.Unwritten → ⊥)) }
 {
     match image.imports().first() {
@@ -74,7 +74,7 @@ fn served(alloc: Global, image: Image) -> Result<Image, Failure>
 #[tactic(auto, unfolding(crate::specs::Shown::judged))]
 fn judged(alloc: Global, bytes: &[u8]) -> Result<Image, Failure>
     ensures ok { IfOk result (λ image. (judged bytes.now ≡ Ok image) × (image.imports ≡ [])) }
-    ensures refused { IfErr result (λ e. (line : List ℕ) → e ≡ Failure.Refused line → judged bytes.now ≡ Err line) }
+    ensures refused { IfErr result (λ e. (line : List ℕ) → e ≡ Failure.Refused line → IsRefusalLine line × (judged bytes.now ≡ Err line)) }
     ensures others { IfErr result (λ e. (e ≡ Failure.Unread → ⊥) × (e ≡ Failure.Unwritten → ⊥)) }
 {
     match Image::read(alloc, bytes) {
@@ -94,6 +94,8 @@ pub fn read_image<F: Files>(alloc: Global, files: &mut F, sys: &str) -> Result<I
         × ((m : Kept) → F.kept files.old ≡ Some m → judged (bytes_at m sys.now) ≡ Err line)) }
     ensures not_written { IfErr result (λ e. e ≡ Failure.Unwritten → ⊥) }
     ensures cause { IfErr result (λ e. e ≡ Failure.Unread → Rose (F.read_faults files.old) (F.read_faults files.new)) }
+    ensures quiet { OnOk result (F.read_faults files.new ≡ F.read_faults files.old) }
+    ensures quiet_refusal { IfErr result (λ e. (line : List ℕ) → e ≡ Failure.Refused line → F.read_faults files.new ≡ F.read_faults files.old) }
     ensures only { OnlyReads F.kept F.read_faults F.write_faults F.may_read F.may_write files.old files.new }
 {
     match read_file(alloc, files, sys, IMAGE_LIMIT) {
@@ -140,15 +142,15 @@ pub fn log_run<F: Files>(
 ) -> Result<Finished, Failure>
     requires readable { IsTrue (F.may_read files.old sys.now) }
     requires writable { IsTrue (F.may_write files.old log.now) }
-    ensures ran { IfOk result (λ finished. (m : Kept) → F.kept files.old ≡ Some m
-        → (image : ImageParts) × (judged (bytes_at m sys.now) ≡ Ok image)
-        × HasRun image finished.ending finished.charged (string_bytes finished.text)
-        × (F.kept files.new ≡ Some (insert m log.now (string_bytes finished.text)))) }
-    ensures refused { IfErr result (λ e. (line : List ℕ) → e ≡ Failure.Refused line → (F.kept files.new ≡ F.kept files.old)
-        × IsRefusalLine line × ((m : Kept) → F.kept files.old ≡ Some m → judged (bytes_at m sys.now) ≡ Err line)) }
+    ensures ran { IfOk result (λ finished. (m : Kept) → F.kept files.old ≡ Some m → Logs m sys.now log.now (F.kept files.new) finished.ending finished.charged) }
+    ensures refused { IfErr result (λ e. (line : List ℕ) → e ≡ Failure.Refused line → TellsRefusal sys.now (F.kept files.old) (F.kept files.new) line) }
     ensures unread { IfErr result (λ e. e ≡ Failure.Unread → Rose (F.read_faults files.old) (F.read_faults files.new) × (F.kept files.new ≡ F.kept files.old)) }
     ensures unwritten { IfErr result (λ e. e ≡ Failure.Unwritten → Rose (F.write_faults files.old) (F.write_faults files.new)) }
-    ensures broke_off { OnErr result ((m : Kept) → F.kept files.old ≡ Some m → LeavesFront m sys.now log.now (F.kept files.new)) }
+    ensures quiet { OnOk result ((F.read_faults files.new ≡ F.read_faults files.old) × (F.write_faults files.new ≡ F.write_faults files.old)) }
+    ensures quiet_refusal { IfErr result (λ e. (line : List ℕ) → e ≡ Failure.Refused line
+        → (F.read_faults files.new ≡ F.read_faults files.old) × (F.write_faults files.new ≡ F.write_faults files.old)) }
+    ensures quiet_unread { IfErr result (λ e. e ≡ Failure.Unread → F.write_faults files.new ≡ F.write_faults files.old) }
+    ensures broke_off { OnErr result ((m : Kept) → F.kept files.old ≡ Some m → (F.kept files.new ≡ Some m) ⊎ LogsFront m sys.now log.now (F.kept files.new)) }
 {
     let image = match read_image(alloc, files, sys) {
         Ok(image) => image,

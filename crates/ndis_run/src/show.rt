@@ -1,6 +1,6 @@
 //! `show-image SYS` and `show-inf INF ID`: what an input holds.
 
-ghost use Rattle.std.specs.Prelude.{◌≡◌, ℕ, ◌⊎◌, Some, IfOk, IsErrOf, IsTrue};
+ghost use Rattle.std.specs.Prelude.{◌≡◌, ℕ, ◌⊎◌, Some, IfOk, OnOk, IsErrOf, IsTrue};
 ghost use Rattle.nd_base.specs.Files.{Kept, bytes_at, Rose, OnlyReads};
 ghost use Rattle.std.specs.List.{flat_map};
 ghost use Rattle.printed_lines.specs.ImageLines.{image_line};
@@ -75,6 +75,7 @@ pub fn show_image<F: Files>(alloc: Global, files: &mut F, sys: &str) -> Result<A
     ensures value { IfOk result (λ a. (m : Kept) → F.kept files.old ≡ Some m → answer a.status a.text ≡ shown_image (bytes_at m sys.now)) }
     ensures status { IfOk result (λ a. (a.status ≡ 0) ⊎ (a.status ≡ 5)) }
     ensures cause { IsErrOf result ShowFailure.Unread → Rose (F.read_faults files.old) (F.read_faults files.new) }
+    ensures quiet { OnOk result (F.read_faults files.new ≡ F.read_faults files.old) }
     ensures only { OnlyReads F.kept F.read_faults F.write_faults F.may_read F.may_write files.old files.new }
 {
     match read_file(alloc, files, sys, IMAGE_LIMIT) {
@@ -161,6 +162,7 @@ pub fn show_inf<F: Files>(
     ensures value { IfOk result (λ a. (m : Kept) → F.kept files.old ≡ Some m → answer a.status a.text ≡ shown_inf id.now (bytes_at m inf.now)) }
     ensures status { IfOk result (λ a. (a.status ≡ 0) ⊎ (a.status ≡ 6)) }
     ensures cause { IsErrOf result ShowFailure.Unread → Rose (F.read_faults files.old) (F.read_faults files.new) }
+    ensures quiet { OnOk result (F.read_faults files.new ≡ F.read_faults files.old) }
     ensures only { OnlyReads F.kept F.read_faults F.write_faults F.may_read F.may_write files.old files.new }
 {
     match read_file(alloc, files, inf, INF_LIMIT) {

@@ -13,6 +13,7 @@ pub fn print<O: Sink>(out: &mut O, piece: &[u8]) -> Result<(), IoFault>
     ensures front { AddsFront (O.written out.old) (O.written out.new) piece.now }
     ensures later { O.faults out.old ≤ O.faults out.new }
     ensures cause { IsErrOf result IoFault.Failed → Rose (O.faults out.old) (O.faults out.new) }
+    ensures quiet { OnOk result (O.faults out.new ≡ O.faults out.old) }
 {
     let mut done = 0;
     while done < piece.len() {
@@ -31,6 +32,7 @@ pub fn write_file<F: Files>(files: &mut F, name: &str, bytes: &[u8]) -> Result<(
     ensures ok { OnOk result (Writes (F.kept files.old) (F.kept files.new) name.now bytes.now) }
     ensures front { WritesFront (F.kept files.old) (F.kept files.new) name.now bytes.now }
     ensures cause { IsErrOf result IoFault.Failed → Rose (F.write_faults files.old) (F.write_faults files.new) }
+    ensures quiet { OnOk result (F.write_faults files.new ≡ F.write_faults files.old) }
     ensures only { OnlyWrites F.read_faults F.write_faults F.may_read F.may_write files.old files.new }
 {
     files.create(name)?;
@@ -103,6 +105,8 @@ fn read_on<F: Files>(
     ensures within { IfOk result (λ bytes. length bytes.items ≤ limit) }
     ensures too_long { IsErrOf result ReadFailure.TooLong → (m : Kept) → F.kept files.old ≡ Some m → limit < length (bytes_at m name.now) }
     ensures cause { IsErrOf result ReadFailure.Failed → Rose (F.read_faults files.old) (F.read_faults files.new) }
+    ensures quiet { OnOk result (F.read_faults files.new ≡ F.read_faults files.old) }
+    ensures quiet_too_long { IsErrOf result ReadFailure.TooLong → F.read_faults files.new ≡ F.read_faults files.old }
     ensures only { OnlyReads F.kept F.read_faults F.write_faults F.may_read F.may_write files.old files.new }
 {
     let mut bytes = Vec::new(alloc);
@@ -132,6 +136,8 @@ pub fn read_file<F: Files>(
     ensures within { IfOk result (λ bytes. length bytes.items ≤ limit) }
     ensures too_long { IsErrOf result ReadFailure.TooLong → (m : Kept) → F.kept files.old ≡ Some m → limit < length (bytes_at m name.now) }
     ensures cause { IsErrOf result ReadFailure.Failed → Rose (F.read_faults files.old) (F.read_faults files.new) }
+    ensures quiet { OnOk result (F.read_faults files.new ≡ F.read_faults files.old) }
+    ensures quiet_too_long { IsErrOf result ReadFailure.TooLong → F.read_faults files.new ≡ F.read_faults files.old }
     ensures only { OnlyReads F.kept F.read_faults F.write_faults F.may_read F.may_write files.old files.new }
 {
     let size = files.size(name)?;

@@ -118,7 +118,7 @@ word_held part rva e =
     let both = and_parts (nat_le part.section.rva rva) (nat_le (rva + 4) (part.section.rva + part.section.span)) e in
     record { from = leb-true part.section.rva rva both.0; to = leb-true (rva + 4) (part.section.rva + part.section.span) both.1 }
 
-any_word : (parts : List SectionPart) (rva : ℕ) → has_word parts rva ≡ true → Any (HoldsWord rva) parts
+pub any_word : (parts : List SectionPart) (rva : ℕ) → has_word parts rva ≡ true → Any (HoldsWord rva) parts
 any_word [] rva e = absurd cc
 any_word (part ∷ parts) rva e =
     elim (or_cases (holds_word part rva) (has_word parts rva) e) [

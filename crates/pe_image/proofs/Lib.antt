@@ -1,3 +1,4 @@
+pub mod Again
 pub mod Contents
 pub mod Fronts
 pub mod Importing

@@ -12,7 +12,7 @@ use Rattle.nd_mem.specs.declared.RegionRefusal.TheVariants.{OutOfMemory, High, O
 use Rattle.nd_mem.specs.Cell.{Cell}
 use Rattle.nd_mem.specs.Space.{Space, Cells, wrapped, Access, Any, fault_at, either_of, first_fault, with_byte, put_from, zeros_from, first_mapped, overlap_at, region_refusal}
 use Rattle.pe_image.specs.declared.headers.Section.{Section}
-use Rattle.pe_image.specs.Image.{range_cell, sections_refusal}
+use Rattle.pe_image.specs.Image.{ImageParts, range_cell, sections_refusal, map_refusal, sections_of}
 
 -- ---- the look-up after the words on memory
 zero_cell : Rights → Cell
@@ -193,3 +193,25 @@ either_none (Some x) y e = absurd (cc)
 
 pub first_free : (cells : Cells) (base : ℕ) (section : Section) (sections : List Section) → sections_refusal cells base (section ∷ sections) ≡ None → region_refusal cells (base + section.rva) section.span ≡ None
 first_free cells base section sections e = (either_none _ _ e).0
+
+-- ---- a refusal is no want of memory
+test_not_memory : (b : Bool) (first : Option ℕ) → (if b then Some High else overlap_at first) ≡ Some OutOfMemory → ⊥
+test_not_memory true first is = cc
+test_not_memory false None is = cc
+test_not_memory false (Some a) is = cc
+
+region_not_memory : (cells : Cells) (at n : ℕ) → region_refusal cells at n ≡ Some OutOfMemory → ⊥
+region_not_memory cells at n is = test_not_memory (nat_lt 0xF0000000 (at + n)) (first_mapped cells at n) is
+
+either_not : (x y : Option RegionRefusal) → (x ≡ Some OutOfMemory → ⊥) → (y ≡ Some OutOfMemory → ⊥) → either_of x y ≡ Some OutOfMemory → ⊥
+either_not None y first second is = second is
+either_not (Some e) y first second is = first is
+
+sections_not_memory : (cells : Cells) (base : ℕ) (sections : List Section) → sections_refusal cells base sections ≡ Some OutOfMemory → ⊥
+sections_not_memory cells base [] is = cc
+sections_not_memory cells base (section ∷ sections) is =
+    either_not (region_refusal cells (base + section.rva) section.span) (sections_refusal cells base sections) (region_not_memory cells (base + section.rva) section.span) (sections_not_memory cells base sections) is
+
+pub image_not_memory : (cells : Cells) (base : ℕ) (image : ImageParts) → map_refusal cells base image ≡ Some OutOfMemory → ⊥
+image_not_memory cells base image is =
+    either_not (region_refusal cells base image.header_size) (sections_refusal cells base (sections_of image)) (region_not_memory cells base image.header_size) (sections_not_memory cells base (sections_of image)) is

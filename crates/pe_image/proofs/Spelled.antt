@@ -1,6 +1,6 @@
 -- What is read is as it is spelled.
-use Rattle.std.proofs.Common.{◌≡◌, ℕ, zero, suc, ◌+◌, ◌-◌, ◌*◌, ◌/◌, ◌%◌, ◌<◌, ◌≤◌, ◌↔◌, ◌&&◌, ◌++◌, inl, inr, true, false, if◌then◌else◌, eqb, nat_le, nat_lt, not, ◌==◌, min, max, List, [], ◌∷◌, length, All, Some, None, Option, Result, Ok, Err, refl, sym, ap, ◌∙◌, subst, arith}
-use Rattle.std.proofs.lemmas.Bool.{and_parts, and_from, and_right, or_left, le-ltb, eqb-true, ne_eqb, leb-true, le-leb, ltb-true, lt-ltb, not-true}
+use Rattle.std.proofs.Common.{◌≡◌, ℕ, zero, suc, ◌+◌, ◌-◌, ◌*◌, ◌/◌, ◌%◌, ◌<◌, ◌≤◌, ◌⊎◌, ◌↔◌, ◌&&◌, ◌++◌, inl, inr, true, false, if◌then◌else◌, eqb, nat_le, nat_lt, not, ◌==◌, min, max, List, [], ◌∷◌, length, All, Some, None, Option, Result, Ok, Err, refl, sym, ap, ◌∙◌, subst, arith}
+use Rattle.std.proofs.lemmas.Bool.{and_parts, and_from, and_right, or_cases, le-ltb, eqb-true, ne_eqb, leb-true, le-leb, ltb-true, lt-ltb, not-true}
 use Rattle.std.proofs.lemmas.List.{length-append}
 use Rattle.pe_image.specs.declared.refusal.PeRefusal.{PeRefusal}
 use Rattle.pe_image.specs.declared.refusal.PeRefusal.TheVariants.{BadImport, BadReloc, Ordinal, TooLarge}
@@ -13,9 +13,9 @@ use Rattle.pe_image.specs.Relocations.{relocated_word, listed, entries_from, is_
 use Rattle.pe_image.specs.Sections.{end_of, meets, IsLow}
 use Rattle.pe_image.specs.Imports.{is_printable, text_from, name_at, named_import, import_at, continued, imports_from, descriptor_at, imports_of, descriptors_from, most_descriptors, imports_in}
 use Rattle.pe_image.specs.Outcome.{◌>>=◌, require, found_or}
-use Rattle.pe_image.specs.Spellings.{IsText, IsName, IsShared, Block, AreEntries, IsBlock, AreBlocks, Relocates, RelocateInPage, Relocate, IsThunk, AreThunks, AreDescriptors, joined}
+use Rattle.pe_image.specs.Spellings.{IsText, IsName, IsShared, Block, AreEntries, IsBlock, IsOver, AreBlocks, Relocates, RelocateInPage, Relocate, IsThunk, AreThunks, StandsAt, AreDescriptors, joined}
 use Rattle.pe_image.proofs.Judged.{bind_ok, require_ok, ok_is}
-use Rattle.pe_image.proofs.LaidOut.{chosen, found_is, some_of}
+use Rattle.pe_image.proofs.LaidOut.{any_word, chosen, found_is, some_of}
 use Rattle.pe_image.proofs.Importing.{text-end, text-on, descriptors-stop}
 
 text_read : (parts : List SectionPart) (e : PeRefusal) (rva n : ℕ) (text : List ℕ) → text_from parts e rva n ≡ Ok text → IsText parts rva text × (length text < n)
@@ -87,7 +87,7 @@ word_relocated parts page rva entry word e =
       | inr some ↦
           let a = bind_ok (require ((entry / 4096 == 3) && has_word parts (page + entry % 4096)) (BadReloc rva)) (λ _. Ok (Some (page + entry % 4096))) word some.1 in
           let both = and_parts (entry / 4096 == 3) (has_word parts (page + entry % 4096)) (require_ok ((entry / 4096 == 3) && has_word parts (page + entry % 4096)) (BadReloc rva) a.0 a.1) in
-          inr (eqb-true (entry / 4096) 3 both.0, both.1, ap listed (sym (ok_is (Some (page + entry % 4096)) word a.2)))
+          inr (eqb-true (entry / 4096) 3 both.0, any_word parts (page + entry % 4096) both.1, ap listed (sym (ok_is (Some (page + entry % 4096)) word a.2)))
     ]
 
 -- the entries that a loop over n of them reads
@@ -123,16 +123,22 @@ block_read parts table end rva words e =
     let whole : size ≡ 8 + 2 * length read.0 = omega (arith, read.1, is.least, is.even) in
     (record { page = word_of table rva; entries = read.0 }, record { page = refl; size = whole; entries = read.2; within = omega (arith, whole, is.within) }, read.3)
 
-over_past : (table : SectionPart) (end rva : ℕ) → end < rva + 8 → is_over table end rva ≡ true
-over_past table end rva past = or_left (nat_lt end (rva + 8)) ((word_of table rva == 0) && (word_of table (rva + 4) == 0)) (lt-ltb end (rva + 8) past)
+over_read : (table : SectionPart) (end rva : ℕ) → is_over table end rva ≡ true → IsOver table end rva
+over_read table end rva e =
+    elim (or_cases (nat_lt end (rva + 8)) ((word_of table rva == 0) && (word_of table (rva + 4) == 0)) e) [
+      | inl past ↦ inl (ltb-true end (rva + 8) past)
+      | inr zeros ↦
+          let both = and_parts (word_of table rva == 0) (word_of table (rva + 4) == 0) zeros in
+          inr (eqb-true (word_of table rva) 0 both.0, eqb-true (word_of table (rva + 4)) 0 both.1)
+    ]
 
 blocks_read : (parts : List SectionPart) (table : SectionPart) (end rva n : ℕ) (words : List ℕ) → end < rva + 8 + n → blocks_from parts table end rva n ≡ Ok words
     → (blocks : List Block) × AreBlocks table end rva blocks × Relocate parts blocks words
 unfolding blocks_from
-blocks_read parts table end rva zero words most e = ([], over_past table end rva (omega arith), sym (ok_is [] words e))
+blocks_read parts table end rva zero words most e = ([], inl (omega arith), sym (ok_is [] words e))
 blocks_read parts table end rva (suc n) words most e =
     elim (chosen (is_over table end rva) (Ok []) (block_at parts table end rva >>= λ here. blocks_from parts table end (rva + word_of table (rva + 4)) n >>= λ others. Ok (here ++ others)) (Ok words) e) [
-      | inl over ↦ ([], over.0, sym (ok_is [] words over.1))
+      | inl over ↦ ([], over_read table end rva over.0, sym (ok_is [] words over.1))
       | inr more ↦
           let a = bind_ok (block_at parts table end rva) (λ here. blocks_from parts table end (rva + word_of table (rva + 4)) n >>= λ others. Ok (here ++ others)) words more.1 in
           let b = bind_ok (blocks_from parts table end (rva + word_of table (rva + 4)) n) (λ others. Ok (a.0 ++ others)) words a.2 in
@@ -177,7 +183,7 @@ five_fields refusal make (Some v) (Some w) None d e is = refl
 five_fields refusal make (Some v) (Some w) (Some x) None e is = refl
 five_fields refusal make (Some v) (Some w) (Some x) (Some y) e is = rw is refl
 
-descriptor_past : (parts : List SectionPart) (rva : ℕ) → All IsLow parts → 0x400000 ≤ rva + 19 → descriptor_at parts rva ≡ Err (BadImport rva)
+pub descriptor_past : (parts : List SectionPart) (rva : ℕ) → All IsLow parts → 0x400000 ≤ rva + 19 → descriptor_at parts rva ≡ Err (BadImport rva)
 unfolding descriptor_at
 descriptor_past parts rva low past =
     five_fields (BadImport rva) (λ original name first. record { thunks = if original == 0 then first else original; name = name; slots = first })
@@ -267,6 +273,34 @@ thunks_read parts dll thunk slot (suc n) functions e =
     continued_read parts dll thunk slot (suc n) a.0 (imports_from parts dll (thunk + 4) (slot + 4) n) functions (import_read parts dll thunk slot a.0 a.1)
     (λ more is. let read = thunks_read parts dll (thunk + 4) (slot + 4) n more is in (read.0, omega (arith, read.1))) a.2
 
+-- the descriptor of these words
+abbrev descriptor_of : (original name first : ℕ) → Descriptor
+descriptor_of original name first = record { thunks = if original == 0 then first else original; name = name; slots = first }
+
+thunks_of : (original first : ℕ) → ((original ≡ 0) × ((if original == 0 then first else original) ≡ first)) ⊎ ((0 < original) × ((if original == 0 then first else original) ≡ original))
+thunks_of zero first = inl (refl, refl)
+thunks_of (suc n) first = inr (omega arith, let other : eqb (suc n) 0 ≡ false = ne_eqb (suc n) 0 (λ none. omega (arith, none)) in rw other refl)
+
+descriptor_read : (parts : List SectionPart) (rva : ℕ) (head : Descriptor) → descriptor_at parts rva ≡ Ok head → StandsAt parts rva head
+unfolding descriptor_at
+descriptor_read parts rva head e =
+    let refusal = BadImport rva in
+    let read : ℕ → Result ℕ PeRefusal = λ at. found_or refusal (word_at parts at) in
+    let a = bind_ok (read rva) (λ original. read (rva + 4) >>= λ _. read (rva + 8) >>= λ _. read (rva + 12) >>= λ name. read (rva + 16) >>= λ first. Ok (descriptor_of original name first)) head e in
+    let b = bind_ok (read (rva + 4)) (λ _. read (rva + 8) >>= λ _. read (rva + 12) >>= λ name. read (rva + 16) >>= λ first. Ok (descriptor_of a.0 name first)) head a.2 in
+    let c = bind_ok (read (rva + 8)) (λ _. read (rva + 12) >>= λ name. read (rva + 16) >>= λ first. Ok (descriptor_of a.0 name first)) head b.2 in
+    let d = bind_ok (read (rva + 12)) (λ name. read (rva + 16) >>= λ first. Ok (descriptor_of a.0 name first)) head c.2 in
+    let f = bind_ok (read (rva + 16)) (λ first. Ok (descriptor_of a.0 d.0 first)) head d.2 in
+    subst (StandsAt parts rva) (ok_is (descriptor_of a.0 d.0 f.0) head f.2) (record {
+      original = a.0;
+      original_stands = found_is refusal (word_at parts rva) a.0 a.1;
+      time_stands = (b.0, found_is refusal (word_at parts (rva + 4)) b.0 b.1);
+      chain_stands = (c.0, found_is refusal (word_at parts (rva + 8)) c.0 c.1);
+      name_stands = found_is refusal (word_at parts (rva + 12)) d.0 d.1;
+      first_stands = found_is refusal (word_at parts (rva + 16)) f.0 f.1;
+      thunks = thunks_of a.0 f.0;
+    })
+
 -- the functions of one DLL
 imports_of_read : (parts : List SectionPart) (head : Descriptor) (n : ℕ) (functions : List ImportParts) → imports_of parts head n ≡ Ok functions → (dll : List ℕ) × IsName parts head.name dll × AreThunks parts dll head.thunks head.slots functions × (length functions ≤ n)
 unfolding imports_of
@@ -276,13 +310,14 @@ imports_of_read parts head n functions e =
     (a.0, name_read parts head.name a.0 a.1, read.0, read.1)
 
 descriptors_read : (parts : List SectionPart) (rva count n : ℕ) (functions : List ImportParts) → descriptors_from parts rva count n ≡ Ok functions
-    → (lists : List (List ImportParts)) × AreDescriptors parts rva lists × (functions ≡ joined lists) × (length functions ≤ n)
+    → (lists : List (List ImportParts)) × AreDescriptors parts rva lists × (functions ≡ joined lists) × (length lists < count) × (length functions ≤ n)
 unfolding descriptors_from
 descriptors_read parts rva zero n functions e = absurd cc
 descriptors_read parts rva (suc count) n functions e =
     let a = bind_ok (descriptor_at parts rva) (λ descriptor. if descriptor.name == 0 then Ok [] else imports_of parts descriptor n >>= λ here. descriptors_from parts (rva + 20) count (n - length here) >>= λ others. Ok (here ++ others)) functions e in
+    let stands = descriptor_read parts rva a.0 a.1 in
     elim (chosen (a.0.name == 0) (Ok []) (imports_of parts a.0 n >>= λ here. descriptors_from parts (rva + 20) count (n - length here) >>= λ others. Ok (here ++ others)) (Ok functions) a.2) [
-      | inl none ↦ ([], (a.0, a.1, eqb-true a.0.name 0 none.0), sym (ok_is [] functions none.1), omega (arith, ap length (ok_is [] functions none.1)))
+      | inl none ↦ ([], (a.0, stands, eqb-true a.0.name 0 none.0), sym (ok_is [] functions none.1), omega arith, omega (arith, ap length (ok_is [] functions none.1)))
       | inr some ↦
           let b = bind_ok (imports_of parts a.0 n) (λ here. descriptors_from parts (rva + 20) count (n - length here) >>= λ others. Ok (here ++ others)) functions some.1 in
           let c = bind_ok (descriptors_from parts (rva + 20) count (n - length b.0)) (λ others. Ok (b.0 ++ others)) functions b.2 in
@@ -290,14 +325,15 @@ descriptors_read parts rva (suc count) n functions e =
           let rest = descriptors_read parts (rva + 20) count (n - length b.0) c.0 c.1 in
           let whole : functions ≡ b.0 ++ c.0 = sym (ok_is (b.0 ++ c.0) functions c.2) in (
             b.0 ∷ rest.0,
-            (record { head = a.0; stands = a.1; some = not_zero a.0.name some.0; dll = first.0; dll_name = first.1; thunks = first.2 }, rest.1),
+            (record { head = a.0; stands = stands; some = not_zero a.0.name some.0; dll = first.0; dll_name = first.1; thunks = first.2 }, rest.1),
             whole ∙ ap (λ (others : List ImportParts). b.0 ++ others) rest.2,
-            omega (arith, ap length whole, length-append b.0 c.0, first.3, rest.3),
+            omega (arith, rest.3),
+            omega (arith, ap length whole, length-append b.0 c.0, first.3, rest.4),
           )
     ]
 
 pub imports_read : (parts : List SectionPart) (rva : ℕ) (functions : List ImportParts) → 0 < rva → imports_in parts rva ≡ Ok functions
-    → (lists : List (List ImportParts)) × AreDescriptors parts rva lists × (functions ≡ joined lists) × (length functions ≤ 4096)
+    → (lists : List (List ImportParts)) × AreDescriptors parts rva lists × (functions ≡ joined lists) × (length lists < most_descriptors) × (length functions ≤ 4096)
 unfolding imports_in
 imports_read parts rva functions some e =
     elim (chosen (rva == 0) (Ok []) (descriptors_from parts rva most_descriptors 4096) (Ok functions) e) [

@@ -1,13 +1,13 @@
 -- An image's headers, and its sections with the bytes of its contents, are the mapped image.
-use Rattle.std.proofs.Common.{◌≡◌, ℕ, ◌+◌, ◌-◌, ◌<◌, ◌≤◌, inl, inr, List, [], ◌∷◌, length, map, get_or, take, drop, Option, None, Some, refl, sym, ap, ◌∙◌, subst, arith, All}
+use Rattle.std.proofs.Common.{◌≡◌, ℕ, ◌+◌, ◌-◌, ◌<◌, ◌≤◌, inl, inr, zero, suc, if◌then◌else◌, List, [], ◌∷◌, length, map, get_or, take, drop, Option, None, Some, is_some, refl, sym, ap, ◌∙◌, subst, arith, All}
 use Rattle.std.specs.List.{AllPairs}
 use Rattle.std.proofs.lemmas.Bool.{cases_lt}
-use Rattle.std.proofs.lemmas.List.{get_or-take, get_or-drop, get_or-map, length-map}
+use Rattle.std.proofs.lemmas.List.{get_or-take, get_or-drop, get_or-map, length-map, take-map}
 use Rattle.nd_mem.specs.Cell.{Cell, cell_with}
 use Rattle.nd_mem.specs.Space.{Cells, either_of}
 use Rattle.nd_mem.specs.declared.Rights.{Rights}
 use Rattle.pe_image.specs.declared.headers.Section.{Section}
-use Rattle.pe_image.specs.Image.{SectionPart, ImageParts, range_cell, read_only, section_cell, sections_cell, image_cells, map_refusal, sections_of, IsSectionLaidOut, IsLaidOut}
+use Rattle.pe_image.specs.Image.{SectionPart, ImageParts, range_cell, read_only, section_cell, sections_cell, image_cells, front_cells, map_refusal, sections_of, IsSectionLaidOut, IsLaidOut}
 use Rattle.pe_image.specs.Contents.{contents_of, filled_cell, AreDisjoint, EndsWithin}
 use Rattle.pe_image.proofs.Mapping.{range_cell-in, range_cell-out, either_assoc, either_none}
 use Rattle.pe_image.proofs.Parts.{either_exchange, free_in_range, free_in_either, free_in_sections}
@@ -92,3 +92,40 @@ whole_image old mid new base image slots laid free headers sections x =
     ∙ ap (λ o. either_of (old x) (either_of (headers_cell image base x) o)) (filled_is base bytes image.sections x)
     ∙ exchange old base image bytes x free
     ∙ ap (λ (cells : Cells). either_of (cells x) (old x)) (sym (image_cells_shown image base slots laid))
+
+-- ---- the first sections alone
+either_front : (o s whole : Option Cell) (cell : Cell) → (s ≡ Some cell → whole ≡ Some cell) → either_of o s ≡ Some cell → either_of o whole ≡ Some cell
+either_front None s whole cell same is = same is
+either_front (Some found) s whole cell same is = is
+
+sections_front : (base : ℕ) (parts : List SectionPart) (n a : ℕ) (cell : Cell) → sections_cell base (take n parts) a ≡ Some cell → sections_cell base parts a ≡ Some cell
+sections_front base [] zero a cell is = absurd cc
+sections_front base [] (suc n) a cell is = absurd cc
+sections_front base (part ∷ parts) zero a cell is = absurd cc
+sections_front base (part ∷ parts) (suc n) a cell is =
+    either_front (section_cell base part a) (sections_cell base (take n parts) a) (sections_cell base parts a) cell (sections_front base parts n a cell) is
+
+front_of : (headers front whole shown_at : Option Cell) (byte : ℕ) → shown_at ≡ either_of headers (cell_with byte whole) → ((cell : Cell) → front ≡ Some cell → whole ≡ Some cell)
+    → either_of headers (cell_with byte front) ≡ (if is_some (either_of headers front) then shown_at else None)
+front_of (Some cell) front whole shown_at byte is same = sym is
+front_of None None whole shown_at byte is same = refl
+front_of None (Some cell) whole shown_at byte is same = sym (is ∙ ap (cell_with byte) (same cell refl))
+
+pub front_image : (old mid new : Cells) (base : ℕ) (image : ImageParts) (slots : List ℕ) (n : ℕ) → IsLaidOut image
+    → ((x : ℕ) → mid x ≡ either_of (old x) (range_cell base image.header_size image.headers read_only x))
+    → ((x : ℕ) → new x ≡ either_of (mid x) (filled_cell base (contents_of image base slots) (take n (sections_of image)) x))
+    → (x : ℕ) → new x ≡ either_of (old x) (front_cells image base slots n x)
+unfolding shown headers_cell
+front_image old mid new base image slots n laid headers sections x =
+    let bytes = contents_of image base slots in
+    let byte : ℕ = get_or bytes (x - base) 0 in
+    let front = take n image.sections in
+    let filled = filled_cell base bytes (take n (sections_of image)) x in
+    let filled_front : filled ≡ cell_with byte (sections_cell base front x) =
+    ap (λ (listed : List Section). filled_cell base bytes listed x) (take-map (λ (part : SectionPart). part.section) n image.sections) ∙ filled_is base bytes front x in
+    sections x
+    ∙ ap (λ o. either_of o filled) (headers x)
+    ∙ either_assoc (old x) (headers_cell image base x) filled
+    ∙ ap (λ o. either_of (old x) (either_of (headers_cell image base x) o)) filled_front
+    ∙ ap (either_of (old x)) (front_of (headers_cell image base x) (sections_cell base front x) (sections_cell base image.sections x) (image_cells image base slots x) byte
+    (ap (λ (cells : Cells). cells x) (image_cells_shown image base slots laid)) (sections_front base image.sections n x))

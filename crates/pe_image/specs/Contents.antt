@@ -1,5 +1,6 @@
 -- The bytes of an image's sections as they stand in memory, in one list from RVA 0 on, before the memory has them (Microsoft PE/COFF
--- specification, "Section Table" and "The .reloc Section").
+-- specification, "Section Table" and "The .reloc Section"). They serve proofs alone: private functions say by them what they make on the
+-- way to the mapped image, and no public clause cites them.
 use Rattle.std.specs.Prelude.{◌≤◌, ℕ, ◌+◌, ◌%◌, ◌^◌, List, [], ◌∷◌, ◌++◌, length, take, drop, replicate, Option, None}
 use Rattle.byteorder.specs.Endian.{little_number, little_bytes}
 use Rattle.nd_mem.specs.Cell.{Cell}

@@ -23,7 +23,8 @@ file_header_at bytes at = do
   _ ← require (u16_at bytes (at + 4) == 0x14C) NotI386
   Ok (file_header bytes at)
 
--- an optional header of a PE32 image, of as many bytes as SizeOfOptionalHeader says
+-- An optional header of a PE32 image, of as many bytes as SizeOfOptionalHeader says. A file that ends before them is Short. Fewer than the
+-- 96 bytes in front of the data directories, or another magic number than that of PE32, are NotPe32.
 unfoldable pub optional_header_at : List ℕ → (at size : ℕ) → Result OptionalHeader PeRefusal
 optional_header_at bytes at size = do
   _ ← require (nat_le (at + size) (length bytes)) (Short at)

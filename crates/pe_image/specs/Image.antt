@@ -1,6 +1,6 @@
 -- A PE32 image as its parts, and the memory that it fills once it is mapped (Microsoft PE/COFF specification, "Section Table",
 -- "The .reloc Section" and "The .idata Section"). An RVA is an address less that of the image's first byte.
-use Rattle.std.specs.Prelude.{◌≡◌, ℕ, ◌+◌, ◌-◌, ◌%◌, ◌^◌, ◌<◌, ◌≤◌, ◌⊎◌, ◌&&◌, true, false, nat_le, nat_lt, if◌then◌else◌, List, [], ◌∷◌, length, map, slice_index, Option, None, Some, All, Any}
+use Rattle.std.specs.Prelude.{◌≡◌, ℕ, ◌+◌, ◌-◌, ◌%◌, ◌^◌, ◌<◌, ◌≤◌, ◌⊎◌, ◌&&◌, true, false, nat_le, nat_lt, if◌then◌else◌, List, [], ◌∷◌, length, map, take, slice_index, Option, None, Some, is_some, All, Any}
 use Rattle.std.specs.List.{AllPairs}
 use Rattle.byteorder.specs.Endian.{little_number, little_bytes}
 use Rattle.nd_mem.specs.Cell.{Cell, cell_with}
@@ -103,9 +103,16 @@ IsOutside at a = at ≤ a → at + 4 ≤ a
 abbrev pub AreWordsApart : ℕ → ℕ → Type 0
 AreWordsApart first second = (first + 4 ≤ second) ⊎ (second + 4 ≤ first)
 
--- each byte that is mapped stays so, with its value and its rights
-abbrev pub Keeps : (old new : Cells) → Type 0
-Keeps old new = (a : ℕ) (cell : Cell) → old a ≡ Some cell → new a ≡ Some cell
+-- what the mapped image has in its headers and its first n sections
+abbrev pub front_cells : ImageParts → (base : ℕ) → (slots : List ℕ) → (n : ℕ) → Cells
+front_cells image base slots n a =
+    if is_some (image_cell (record image { sections = take n image.sections }) base a) then image_cells image base slots a else None
+
+-- Memory has gained nothing, or the headers and the first n of more sections, each of them whole and as the mapped image has it. What was
+-- mapped stays.
+abbrev pub HasGainedPart : ImageParts → (base : ℕ) → (slots : List ℕ) → (old new : Cells) → Type 0
+HasGainedPart image base slots old new =
+    ((a : ℕ) → new a ≡ old a) ⊎ ((n : ℕ) × (n < length image.sections) × ((a : ℕ) → new a ≡ either_of (old a) (front_cells image base slots n a)))
 
 -- ---- whether it can be mapped
 abbrev pub sections_refusal : Cells → (base : ℕ) → List Section → Option RegionRefusal

@@ -53,8 +53,8 @@ imports_from parts dll thunk slot (suc n) = import_at parts dll thunk slot >>= �
 abbrev pub field : List SectionPart → (structure rva : ℕ) → Result ℕ PeRefusal
 field parts structure rva = found_or (BadImport structure) (word_at parts rva)
 
--- A descriptor of 20 bytes: OriginalFirstThunk, two fields that are not asked for, Name and FirstThunk. Its thunks are read at
--- OriginalFirstThunk, or at FirstThunk where that is 0.
+-- A descriptor of 20 bytes: OriginalFirstThunk, TimeDateStamp, ForwarderChain, Name and FirstThunk. All of it lies in the sections, though
+-- what TimeDateStamp and ForwarderChain say is not asked for. Its thunks are read at OriginalFirstThunk, or at FirstThunk where that is 0.
 unfoldable pub descriptor_at : List SectionPart → ℕ → Result Descriptor PeRefusal
 descriptor_at parts rva = do
   original ← field parts rva rva
@@ -69,7 +69,8 @@ imports_of parts descriptor n = do
   dll ← name_at parts descriptor.name
   imports_from parts dll descriptor.thunks descriptor.slots n
 
--- the imports of the descriptors from an RVA on, up to one without a name; there may be `count` descriptors and n imports
+-- The imports of the descriptors from an RVA on; there may be `count` descriptors and n imports. The specification ends the table with a
+-- descriptor of zeros. One whose Name is 0 ends it here, whatever its other fields say.
 unfoldable pub descriptors_from : List SectionPart → (rva count n : ℕ) → Result (List ImportParts) PeRefusal
 descriptors_from parts rva zero n = Err (BadImport rva)
 descriptors_from parts rva (suc count) n = descriptor_at parts rva >>= λ descriptor.

@@ -1,11 +1,9 @@
 -- How names and sections stand in an image, as the PE/COFF specification has it.
-use Rattle.std.specs.Prelude.{◌≡◌, ◌⊎◌, ℕ, ◌+◌, ◌*◌, ◌/◌, ◌%◌, ◌<◌, ◌≤◌, true, List, [], ◌∷◌, ◌++◌, length, Some, Ok}
+use Rattle.std.specs.Prelude.{◌≡◌, ◌⊎◌, ℕ, ◌+◌, ◌*◌, ◌/◌, ◌%◌, ◌<◌, ◌≤◌, List, [], ◌∷◌, ◌++◌, length, Some, Any}
 use Rattle.pe_image.specs.declared.headers.SectionHeader.{SectionHeader}
 use Rattle.pe_image.specs.declared.imports.Descriptor.{Descriptor}
-use Rattle.pe_image.specs.Image.{SectionPart, ImportParts}
-use Rattle.pe_image.specs.Lookup.{section_byte, word_at, half_of, word_of, has_word}
-use Rattle.pe_image.specs.Relocations.{is_over}
-use Rattle.pe_image.specs.Imports.{descriptor_at}
+use Rattle.pe_image.specs.Image.{SectionPart, ImportParts, HoldsWord}
+use Rattle.pe_image.specs.Lookup.{section_byte, word_at, half_of, word_of}
 use Rattle.pe_image.specs.Sections.{end_of}
 
 -- the bytes of a text stand one behind the other from an RVA on, each of them printable, and a zero byte behind them
@@ -46,16 +44,20 @@ pub record IsBlock (table : SectionPart) (end rva : ℕ) (block : Block) : Type 
   pub entries : AreEntries table (rva + 8) block.entries
   pub within : rva + block_size block ≤ end
 
+-- the table is over: fewer than 8 bytes of it are left, or a block of page 0 and size 0 stands there
+abbrev pub IsOver : SectionPart → (end rva : ℕ) → Type 0
+IsOver table end rva = (end < rva + 8) ⊎ ((word_of table rva ≡ 0) × (word_of table (rva + 4) ≡ 0))
+
 -- blocks stand one behind the other from an RVA on, and behind the last the table is over
 abbrev pub AreBlocks : SectionPart → (end rva : ℕ) → List Block → Type 0
-AreBlocks table end rva [] = is_over table end rva ≡ true
+AreBlocks table end rva [] = IsOver table end rva
 AreBlocks table end rva (block ∷ blocks) = IsBlock table end rva block × AreBlocks table end (rva + block_size block) blocks
 
 -- An entry is a type and an offset in its block's page. One of type 0 says nothing, and one of type 3 relocates a word that lies in
 -- one section; there is no other.
 abbrev pub Relocates : List SectionPart → (page entry : ℕ) → List ℕ → Type 0
 Relocates parts page entry words =
-    ((entry / 4096 ≡ 0) × (words ≡ [])) ⊎ ((entry / 4096 ≡ 3) × (has_word parts (page + entry % 4096) ≡ true) × (words ≡ (page + entry % 4096) ∷ []))
+    ((entry / 4096 ≡ 0) × (words ≡ [])) ⊎ ((entry / 4096 ≡ 3) × Any (HoldsWord (page + entry % 4096)) parts × (words ≡ (page + entry % 4096) ∷ []))
 
 abbrev pub RelocateInPage : List SectionPart → (page : ℕ) → (entries words : List ℕ) → Type 0
 RelocateInPage parts page [] words = words ≡ []
@@ -83,10 +85,21 @@ abbrev pub AreThunks : List SectionPart → (dll : List ℕ) → (thunk slot : �
 AreThunks parts dll thunk slot [] = word_at parts thunk ≡ Some 0
 AreThunks parts dll thunk slot (function ∷ functions) = IsThunk parts dll thunk slot function × AreThunks parts dll (thunk + 4) (slot + 4) functions
 
+-- The words of a descriptor: OriginalFirstThunk, TimeDateStamp and ForwarderChain, of which any numbers may stand, Name and FirstThunk.
+-- The thunks are those at OriginalFirstThunk, or at FirstThunk where that is 0.
+pub record StandsAt (parts : List SectionPart) (rva : ℕ) (head : Descriptor) : Type 0 where
+  pub original : ℕ
+  pub original_stands : word_at parts rva ≡ Some original
+  pub time_stands : (word : ℕ) × (word_at parts (rva + 4) ≡ Some word)
+  pub chain_stands : (word : ℕ) × (word_at parts (rva + 8) ≡ Some word)
+  pub name_stands : word_at parts (rva + 12) ≡ Some head.name
+  pub first_stands : word_at parts (rva + 16) ≡ Some head.slots
+  pub thunks : ((original ≡ 0) × (head.thunks ≡ head.slots)) ⊎ ((0 < original) × (head.thunks ≡ original))
+
 -- a descriptor of a DLL, with the functions of its thunks
 pub record IsDescriptor (parts : List SectionPart) (rva : ℕ) (functions : List ImportParts) : Type 0 where
   pub head : Descriptor
-  pub stands : descriptor_at parts rva ≡ Ok head
+  pub stands : StandsAt parts rva head
   pub some : 0 < head.name
   pub dll : List ℕ
   pub dll_name : IsName parts head.name dll
@@ -94,7 +107,7 @@ pub record IsDescriptor (parts : List SectionPart) (rva : ℕ) (functions : List
 
 -- descriptors stand one behind the other from an RVA on, and behind the last one whose Name is 0
 abbrev pub AreDescriptors : List SectionPart → (rva : ℕ) → List (List ImportParts) → Type 0
-AreDescriptors parts rva [] = (head : Descriptor) × (descriptor_at parts rva ≡ Ok head) × (head.name ≡ 0)
+AreDescriptors parts rva [] = (head : Descriptor) × StandsAt parts rva head × (head.name ≡ 0)
 AreDescriptors parts rva (functions ∷ others) = IsDescriptor parts rva functions × AreDescriptors parts (rva + 20) others
 
 -- the functions of the DLLs in a row

@@ -19,18 +19,22 @@ pub fn overlaps_share_an_address()
     ensures { (header : SectionHeader) (start end : ℕ) → (meets header start end ≡ true) ↔ ((rva : ℕ) × IsShared header start end rva) }
 {}
 
-/// The relocations are those of a list of blocks that stand one behind the other.
+/// The relocations are those of a list of blocks that stand one behind the other, and where such
+/// blocks stand their words are read.
 pub fn relocations_are_of_blocks()
-    ensures { (parts : List SectionPart) (directory : Directory) (table : SectionPart) (words : List ℕ) → relocations_in parts directory (Some table) ≡ Ok words → (blocks : List Block) × AreBlocks table (directory.rva + directory.size) directory.rva blocks × Relocate parts blocks words }
+    ensures { (parts : List SectionPart) (directory : Directory) (table : SectionPart) (words : List ℕ)
+        → (relocations_in parts directory (Some table) ≡ Ok words) ↔ ((blocks : List Block) × AreBlocks table (directory.rva + directory.size) directory.rva blocks × Relocate parts blocks words) }
 {}
 
 /// An image of 4 MiB has room for no more descriptors than are read.
 pub fn no_more_descriptors()
-    ensures { (parts : List SectionPart) (rva n left : ℕ) → All IsLow parts → most_descriptors ≤ n → descriptors_from parts rva n left ≡ descriptors_from parts rva most_descriptors left }
+    ensures standing { (parts : List SectionPart) (rva : ℕ) (lists : List (List ImportParts)) → All IsLow parts → AreDescriptors parts rva lists → length lists < most_descriptors }
+    ensures read { (parts : List SectionPart) (rva n left : ℕ) → All IsLow parts → most_descriptors ≤ n → descriptors_from parts rva n left ≡ descriptors_from parts rva most_descriptors left }
 {}
 
 /// The imports are those of a list of descriptors that stand one behind the other, each with its
-/// thunks.
+/// thunks, and where such descriptors stand their functions are read, if they are not too many.
 pub fn imports_are_of_descriptors()
-    ensures { (parts : List SectionPart) (rva : ℕ) (functions : List ImportParts) → 0 < rva → imports_in parts rva ≡ Ok functions → (lists : List (List ImportParts)) × AreDescriptors parts rva lists × (functions ≡ joined lists) × (length functions ≤ 4096) }
+    ensures { (parts : List SectionPart) (rva : ℕ) (functions : List ImportParts) → 0 < rva
+        → (imports_in parts rva ≡ Ok functions) ↔ ((lists : List (List ImportParts)) × AreDescriptors parts rva lists × (functions ≡ joined lists) × (length lists < most_descriptors) × (length functions ≤ 4096)) }
 {}

@@ -329,3 +329,43 @@ fn takes_4096_imports(rt: HostRuntime) -> Result<(), Fail> {
     assert_eq!(rt; refusal_of(alloc, &more), Some(PeRefusal::TooLarge));
     Ok(())
 }
+
+#[test]
+fn says_why_a_file_is_not_read(rt: HostRuntime) -> Result<(), Fail> {
+    let rows = [
+        (PeRefusal::OutOfMemory, "out of memory"),
+        (PeRefusal::TooLarge, "the file is too large"),
+        (PeRefusal::Short(64), "the file ends in the structure at 64"),
+        (PeRefusal::NotPe, "the file is no PE file"),
+        (PeRefusal::NotI386, "the file is not for i386"),
+        (PeRefusal::NotPe32, "the file is no PE32 image"),
+        (
+            PeRefusal::BadSection(2),
+            "section 2 passes the end of the image or of the file",
+        ),
+        (
+            PeRefusal::Overlap(3),
+            "section 3 overlaps an earlier one or the headers",
+        ),
+        (
+            PeRefusal::BadEntry,
+            "the entry point is in no executable section",
+        ),
+        (
+            PeRefusal::BadDirectory(5),
+            "data directory 5 lies outside the sections",
+        ),
+        (PeRefusal::BadReloc(8202), "wrong base relocation at 8202"),
+        (
+            PeRefusal::RelocsStripped,
+            "the image has another base, and its relocations are stripped",
+        ),
+        (PeRefusal::BadImport(8194), "wrong import at 8194"),
+        (PeRefusal::Ordinal(8260), "import by ordinal at 8260"),
+    ];
+    for (refusal, expected) in rows {
+        let text = format!(in rt.alloc(); "{refusal}")?;
+        assert_eq!(rt; text.as_str(), expected);
+    }
+    Ok(())
+}

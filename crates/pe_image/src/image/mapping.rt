@@ -1,11 +1,11 @@
 //! The mapping of an image into a guest's memory, as the loader of Windows does it (Microsoft PE/COFF
 //! specification, "The .reloc Section" and "The .idata Section").
 
-ghost use Rattle.std.specs.Prelude.{◌≡◌, ◌≢◌, ◌≤◌, ◌+◌, ◌++◌, ℕ, List, [], ◌∷◌, length, replicate, All, Some, None, IfOk, IfErr, OnOk, OnErr};
+ghost use Rattle.std.specs.Prelude.{◌≡◌, ◌≢◌, ◌≤◌, ◌<◌, ◌+◌, ◌++◌, ℕ, List, [], ◌∷◌, length, take, replicate, All, Some, None, IfOk, IfErr, OnOk, OnErr};
 ghost use Rattle.std.specs.List.{AllPairs};
 ghost use Rattle.std.specs.FinMap as map;
 ghost use Rattle.nd_mem.specs.Space.{either_of, region_refusal};
-ghost use Rattle.pe_image.specs.Image.{range_cell, delta, image_cells, sections_refusal, map_refusal, sections_of, Keeps};
+ghost use Rattle.pe_image.specs.Image.{range_cell, delta, image_cells, sections_refusal, map_refusal, sections_of, HasGainedPart};
 ghost use Rattle.pe_image.specs.Contents.{written, word_written, word_moved, with_sections, with_relocations, with_addresses, contents_of, filled_cell, AreDisjoint, EndsWithin, WordEndsWithin, SlotEndsWithin};
 
 use crate::headers::{Section, u32_at};
@@ -72,8 +72,9 @@ impl ImportAddresses {
 impl Image {
     /// Maps the image at `base`: its headers for reading, each section with its rights, its words
     /// relocated, and the word of each import filled with the address that `slots` has for it.
-    /// After want of memory some of its first ranges may stand, and each byte that was mapped
-    /// stays as it was. Any other refusal changes nothing.
+    /// After want of memory its headers and its first sections may stand, each of them whole and
+    /// as the mapped image has it, and each byte that was mapped stays as it was. Any other
+    /// refusal changes nothing.
     pub fn map(
         &self,
         alloc: Global,
@@ -85,7 +86,8 @@ impl Image {
         ensures ok { OnOk result ((a : ℕ) → map.get mem.new a ≡ either_of (image_cells self.now base.0 slots.now a) (map.get mem.old a)) }
         ensures refusal { IfErr result (λ e. e ≢ RegionRefusal.OutOfMemory → (map_refusal (map.get mem.old) base.0 self.now ≡ Some e) × (mem.new ≡ mem.old)) }
         ensures taken { OnOk result (map_refusal (map.get mem.old) base.0 self.now ≡ None) }
-        ensures kept { OnErr result (Keeps (map.get mem.old) (map.get mem.new)) }
+        ensures memory { IfErr result (λ e. e ≡ RegionRefusal.OutOfMemory → map_refusal (map.get mem.old) base.0 self.now ≡ None) }
+        ensures kept { OnErr result (HasGainedPart self.now base.0 slots.now (map.get mem.old) (map.get mem.new)) }
     {
         if let Some(refusal) = self.map_refusal(base, mem) {
             return Err(refusal);
@@ -239,7 +241,7 @@ fn map_sections(
     requires apart { AllPairs AreDisjoint sections.now }
     ensures ok { OnOk result ((a : ℕ) → map.get mem.new a ≡ either_of (map.get mem.old a) (filled_cell base.0 contents.now sections.now a)) }
     ensures err { IfErr result (λ e. e ≡ RegionRefusal.OutOfMemory) }
-    ensures kept { OnErr result (Keeps (map.get mem.old) (map.get mem.new)) }
+    ensures kept { OnErr result ((n : ℕ) × (n < length sections.now) × ((a : ℕ) → map.get mem.new a ≡ either_of (map.get mem.old a) (filled_cell base.0 contents.now (take n sections.now) a))) }
 {
     for section in sections {
         let at = Addr(base.0 + section.rva);

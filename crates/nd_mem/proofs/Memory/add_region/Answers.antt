@@ -41,3 +41,15 @@ returns-clause-ok c =
 
 pub returns-clause-low : goal.returns-clause-low
 returns-clause-low c = low_after _ (c.self.inside.regions.items ++ c.in-Ok.region ∷ []) (pushed c) (laid_out c)
+
+pub returns-in_default-clause-memory : goal.returns-in_default-clause-memory
+returns-in_default-clause-memory c =
+    let seen = cells_seen c.deref.result.now c.self.inside.regions.items c.args.self.now c.self.view_is c.deref.ensures.value c.self.invariant in
+    λ _. ap (λ (f : Cells). region_refusal f c.args.at.0 c.args.len) seen
+    ∙ refusal_none (cells_of c.deref.result.now) c.args.at.0 c.args.len (omega arith) (λ a low high. c.first_held-first.ensures.before a low (omega arith))
+
+pub returns-then-is_err-clause-memory : goal.returns-then-is_err-clause-memory
+returns-then-is_err-clause-memory c =
+    let seen = cells_seen c.deref.result.now c.self.inside.regions.items c.args.self.now c.self.view_is c.deref.ensures.value c.self.invariant in
+    λ _. ap (λ (f : Cells). region_refusal f c.args.at.0 c.args.len) seen
+    ∙ refusal_none (cells_of c.deref.result.now) c.args.at.0 c.args.len (omega arith) (λ a low high. c.first_held-first.ensures.before a low (omega arith))

@@ -1,4 +1,4 @@
-use Rattle.std.proofs.Common.{◌≡◌, ap, ◌∙◌, sym, arith}
+use Rattle.std.proofs.Common.{ap, ◌∙◌, sym, arith}
 use Rattle.nd_mem.specs.Space.{Cells, region_refusal}
 use Rattle.nd_mem.specs.Regions.{cells_of}
 use Rattle.nd_mem.proofs.Mapped.{cells_seen, refusal_none, refusal_overlap}

@@ -1,5 +1,4 @@
-use Rattle.std.proofs.Common.{inl, refl, rules}
-use Rattle.std.proofs.Common.{codes}
+use Rattle.std.proofs.Common.{inl, inr, ap, Err, [], refl, rules}
 use Rattle.ndis_run.specs.Printed.{read_line}
 use Rattle.ndis_run.proofs.Told.{off_at_once}
 use Rattle.ndis_run.proofs.tool.tell_inf.Goals as goal
@@ -9,8 +8,8 @@ returns-in-Err-Memory g c = record {
   same = search rules;
   shown = search rules;
   unread = search rules;
-  unwritten = search rules;
-  closing = λ off. (read_line c.args.inf.now, off_at_once (codes "-") _ _ _ _ c.tell_memory.ensures.front c.tell_memory.ensures.status, inl refl);
+  broke_off = λ _. ([], off_at_once _ _ _ _ _ _ c.tell_memory.ensures.front c.tell_memory.ensures.status, inr (inr refl));
+  quiet = search rules;
   others = search rules;
 }
 
@@ -19,7 +18,7 @@ returns-in-Err-Unread g c = record {
   same = search rules;
   shown = search rules;
   unread = search rules;
-  unwritten = search rules;
-  closing = λ off. (read_line c.args.inf.now, c.tell_unread.ensures.closing (codes "-") off, inl refl);
+  broke_off = λ off. (read_line c.args.inf.now, c.tell_unread.ensures.broke_off off, inr (inl (refl, c.in-Err-Unread.ensures.cause (ap Err c.in-Err-Unread.field-0-is))));
+  quiet = search rules;
   others = search rules;
 }

@@ -1,4 +1,4 @@
-use Rattle.std.proofs.Common.{◌≡◌, ℕ, List, IsTrue, inl, inr, subst, sym, ◌∙◌, ◌++◌, ap, refl, codes, Some}
+use Rattle.std.proofs.Common.{◌≡◌, ℕ, List, IsTrue, inl, inr, subst, sym, ◌∙◌, ◌++◌, ap, refl, Some}
 use Rattle.ndis_run.specs.declared.words.Command.TheVariants.{Help, Version, RunZero, ShowImage, ShowInf}
 use Rattle.ndis_run.specs.Printed.{help_text, version_line}
 use Rattle.ndis_run.proofs.Told.{named, named_alone, named_pair, off_same}
@@ -62,9 +62,8 @@ returns-in-Some-Help-clause-help g c = λ _.
     record {
       known = c.tell.ensures.known;
       same = refl;
-      printed = λ e first is. c.tell.ensures.told e first is ∙ ap (λ l. Some (first ++ l)) text;
-      unwritten = λ e. c.tell.ensures.untold e;
-      closing = λ off. off_same (codes "-") _ _ _ _ _ text (c.tell.ensures.closing (codes "-") off);
+      printed = λ e. (λ first is. c.tell.ensures.told e first is ∙ ap (λ l. Some (first ++ l)) text, c.tell.ensures.quiet e);
+      broke_off = λ off. off_same _ _ _ _ _ _ _ text (c.tell.ensures.broke_off off);
     }
 
 pub returns-in-Some-Version-clause-version : goal.returns-in-Some-Version-clause-version
@@ -73,7 +72,6 @@ returns-in-Some-Version-clause-version g c = λ _.
     record {
       known = c.tell-in-Some-Version.ensures.known;
       same = refl;
-      printed = λ e first is. c.tell-in-Some-Version.ensures.told e first is ∙ ap (λ l. Some (first ++ l)) text;
-      unwritten = λ e. c.tell-in-Some-Version.ensures.untold e;
-      closing = λ off. off_same (codes "-") _ _ _ _ _ text (c.tell-in-Some-Version.ensures.closing (codes "-") off);
+      printed = λ e. (λ first is. c.tell-in-Some-Version.ensures.told e first is ∙ ap (λ l. Some (first ++ l)) text, c.tell-in-Some-Version.ensures.quiet e);
+      broke_off = λ off. off_same _ _ _ _ _ _ _ text (c.tell-in-Some-Version.ensures.broke_off off);
     }

@@ -5,7 +5,7 @@ abbrev pub invariant-loop-done : goal.invariant-loop-done
 invariant-loop-done g l = record {
   within : l.done ≤ length l.piece;
   told : (before : List ℕ) → g.O.Sink.written l.fn.out ≡ Some before → g.O.Sink.written l.out ≡ Some (before ++ take l.done l.piece);
-  later : g.O.Sink.faults l.fn.out ≤ g.O.Sink.faults l.out;
+  quiet : g.O.Sink.faults l.out ≡ g.O.Sink.faults l.fn.out;
 }
 
 abbrev pub decreases-loop-done : goal.decreases-loop-done

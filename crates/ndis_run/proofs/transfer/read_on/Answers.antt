@@ -12,5 +12,6 @@ loop-bytes-preserved g c =
       within = omega arith;
       readable = readable-reads c.read.ensures.only c.args.name.now before.readable;
       told = λ m is. read_more _ _ _ _ c.in_ok-count.count (before.told m is) c.in_ok-extend_from_slice.ensures.items ((c.in_ok-count.ensures.known m (told-reads before.only (Some m) is)).bytes ∙ ap (λ (at : ℕ). take c.in_ok-count.count (drop at (bytes_at m c.args.name.now))) place);
+      quiet = c.in_ok-count.ensures.quiet ∙ before.quiet;
       only = OnlyReads-trans before.only c.read.ensures.only;
     }

@@ -8,6 +8,7 @@ invariant-loop-done g l = record {
   within : l.done ≤ length l.bytes;
   writable : IsTrue (g.F.Files.may_write l.files l.name);
   told : (m : Kept) → g.F.Files.kept l.fn.files ≡ Some m → g.F.Files.kept l.files ≡ Some (insert m l.name (take l.done l.bytes));
+  quiet : g.F.Files.write_faults l.files ≡ g.F.Files.write_faults l.fn.files;
   only : OnlyWrites g.F.Files.read_faults g.F.Files.write_faults g.F.Files.may_read g.F.Files.may_write l.fn.files l.files;
 }
 

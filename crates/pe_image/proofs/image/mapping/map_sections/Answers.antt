@@ -2,8 +2,6 @@ use Rattle.std.proofs.Common.{◌≡◌, ◌+◌, ◌<◌, ℕ, false, [], lengt
 use Rattle.std.specs.FinMap as map
 use Rattle.nd_mem.specs.Space.{either_of}
 use Rattle.pe_image.specs.declared.headers.Section.{Section}
-use Rattle.pe_image.specs.Image.{Keeps}
-use Rattle.pe_image.specs.Contents.{filled_cell}
 use Rattle.pe_image.proofs.Mapping.{free_low}
 use Rattle.pe_image.proofs.Parts.{on_err_from}
 use Rattle.pe_image.proofs.Loops.{section_cell_of, added_part, filled_next, later_free, next_free}
@@ -41,8 +39,5 @@ loop-section-preserved c =
 pub returns-in_err-map_range-clause-kept : goal.returns-in_err-map_range-clause-kept
 returns-in_err-map_range-clause-kept c =
     let i = c.loop-section.section-index in
-    let kept : Keeps (map.get c.args.mem.now) (map.get c.map_range.new.mem) = λ a cell is.
-    ap (λ s. map.get s a) c.in_err-map_range.ensures.err
-    ∙ c.loop-section.invariant.mapped a
-    ∙ ap (λ found. either_of found (filled_cell c.args.base.0 c.args.contents.now (take i c.args.sections.now) a)) is in
-    on_err_from c.from_residual.result kept
+    let less : i < length c.args.sections.now = omega arith in
+    on_err_from c.from_residual.result (i, less, λ a. ap (λ s. map.get s a) c.in_err-map_range.ensures.err ∙ c.loop-section.invariant.mapped a)

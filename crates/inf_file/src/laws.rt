@@ -1,0 +1,45 @@
+//! What holds of the parameters that a file gives, whatever order its checks have.
+
+ghost use Rattle.std.specs.Prelude.{ℕ, List, Option, Some, Ok, Err, ◌≡◌, ◌++◌, ◌↔◌, AllPairs, false, map, reverse};
+ghost use Rattle.std.specs.Option.{option_or};
+ghost use Rattle.inf_file.specs.Sections.{Section as InfSection, is_same};
+ghost use Rattle.inf_file.specs.Numbers.{number_of};
+ghost use Rattle.inf_file.specs.Parameters.{parameters_of};
+ghost use Rattle.inf_file.specs.ByName.{model_in, set_by_rows, defaults_by_rows, names, each_once, value_of};
+ghost use Rattle.inf_file.specs.Earliest.{IsModel};
+ghost use Rattle.inf_file.specs.Faults.{LacksNone, FirstLacking, BadNone, FirstBad};
+ghost use Rattle.inf_file.specs.Spelling.{SpellsNumber};
+ghost use Rattle.inf_file.specs.declared.param.Param.{Param as Parameter};
+ghost use Rattle.inf_file.specs.declared.param.ParamRefusal.TheVariants.{NoString, BadValue};
+
+/// No two parameters have one name. Their names are those that rows set, in the order of their
+/// first rows, and behind them those that have only defaults.
+pub fn each_name_comes_once()
+    ensures differ { (ss : List InfSection) (id : List ℕ) (params : List Parameter) → parameters_of ss id ≡ Ok params → AllPairs (λ a b. is_same a b ≡ false) (names params) }
+    ensures order { (ss : List InfSection) (id : List ℕ) (params : List Parameter) → parameters_of ss id ≡ Ok params → names params ≡ each_once (names (set_by_rows ss id ++ defaults_by_rows ss id)) }
+{}
+
+/// The value of a name is that of the last row that sets it; where no row does, it is the first
+/// default; and where there is no default either, there is no such parameter.
+pub fn last_row_counts()
+    ensures { (ss : List InfSection) (id : List ℕ) (params : List Parameter) (name : List ℕ) → parameters_of ss id ≡ Ok params → value_of name params ≡ option_or (value_of name (reverse (set_by_rows ss id))) (value_of name (defaults_by_rows ss id)) }
+{}
+
+/// A text gives a number exactly where its digits, each by its place, spell that number.
+pub fn numbers_are_spelled()
+    ensures { (text : List ℕ) (n : ℕ) → (number_of text ≡ Some n) ↔ SpellsNumber text n }
+{}
+
+/// The model line of a hardware id lists it and is the first of the file that does; there is none
+/// only where no model line lists the id.
+pub fn first_model_is_taken()
+    ensures { (ss : List InfSection) (id : List ℕ) → IsModel ss id (model_in ss id) }
+{}
+
+/// A refusal names the first line of the file that is at fault: of the lines that are read one that
+/// lacks a string, and else a row whose number is none. Where parameters are given, none is.
+pub fn first_fault_is_named()
+    ensures no_string { (ss : List InfSection) (id : List ℕ) (n : ℕ) → parameters_of ss id ≡ Err (NoString n) → FirstLacking ss id n }
+    ensures bad_value { (ss : List InfSection) (id : List ℕ) (n : ℕ) → parameters_of ss id ≡ Err (BadValue n) → LacksNone ss id × FirstBad ss id n }
+    ensures none { (ss : List InfSection) (id : List ℕ) (params : List Parameter) → parameters_of ss id ≡ Ok params → LacksNone ss id × BadNone ss id }
+{}

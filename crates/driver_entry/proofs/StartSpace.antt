@@ -1,50 +1,17 @@
 -- The memory that the driver begins in is the one that the definitions name.
-use Rattle.std.proofs.Common.{◌≡◌, ◌≢◌, ℕ, zero, suc, ◌+◌, ◌<◌, ◌≤◌, ◌^◌, inl, inr, List, [], ◌∷◌, Option, None, Some, refl, sym, ap, ◌∙◌, arith, if◌then◌else◌, Bool, true, false, length, get_or, lit<}
-use Rattle.std.proofs.lemmas.Bool.{cases_eq, cases_lt}
+use Rattle.std.proofs.Common.{◌≡◌, ℕ, zero, suc, ◌+◌, ◌<◌, ◌≤◌, ◌^◌, List, [], ◌∷◌, Option, None, Some, refl, sym, ap, ◌∙◌, arith, if◌then◌else◌, Bool, true, false, length, get_or, lit<}
 use Rattle.std.proofs.lemmas.Bool.Decides.{nat_tests}
 use Rattle.std.specs.FinMap as finite
-use Rattle.std.specs.Ordering.{nat_cmp}
 use Rattle.nd_mem.specs.Cell.{Cell}
-use Rattle.nd_mem.specs.Space.{Cells, Space, either_of, first_fault, fault_in, address, wrapped, Any}
-use Rattle.nd_mem.specs.Regions.{insert_found, tabulated, mapped}
-use Rattle.nd_mem.proofs.Laws.{wrapped_below, fault_none, get_insert_same, get_insert_other, same_space}
+use Rattle.nd_mem.specs.Space.{Space, either_of, first_fault, fault_in, address, wrapped, Any}
+use Rattle.nd_mem.proofs.Laws.{wrapped_below, fault_none, same_space}
+use Rattle.nd_mem.proofs.Mapped.{get_mapped_cells}
 use Rattle.pe_image.specs.Image.{ImageParts, IsLaidOut, image_cells}
 use Rattle.pe_image.proofs.Laws.{image_cells-out}
 use Rattle.driver_entry.specs.declared.guest.Region.{Region}
 use Rattle.driver_entry.specs.declared.guest.TheConstants.{GUEST_REGIONS, LOAD_BASE}
 use Rattle.driver_entry.specs.Guest.{region_cell, lies_in, blank, start_cell, start_space}
 use Rattle.driver_entry.proofs.GuestMap.{region_cell_low, guest_regions_rise}
-
-found_same : (s : Space) (n : ℕ) (found : Option Cell) → finite.get s n ≡ None → finite.get (insert_found s n found) n ≡ found
-found_same s n None none = none
-found_same s n (Some cell) none = get_insert_same s n cell n refl
-
-found_other : (s : Space) (n x : ℕ) (found : Option Cell) → x ≢ n → finite.get (insert_found s n found) x ≡ finite.get s x
-found_other s n x None other = refl
-found_other s n x (Some cell) other = get_insert_other s n cell x other
-
-tabulated_out : (cells : Cells) (n x : ℕ) → n ≤ x → finite.get (tabulated cells n) x ≡ None
-unfolding tabulated
-tabulated_out cells zero x out = finite.get-empty nat_cmp x
-tabulated_out cells (suc n) x out = found_other (tabulated cells n) n x (cells n) (λ e. omega arith) ∙ tabulated_out cells n x (omega arith)
-
-tabulated_in : (cells : Cells) (n x : ℕ) → x < n → finite.get (tabulated cells n) x ≡ cells x
-unfolding tabulated
-tabulated_in cells zero x less = absurd (omega arith)
-tabulated_in cells (suc n) x less =
-    elim (cases_eq x n) [
-      | inl here ↦ ap (finite.get (insert_found (tabulated cells n) n (cells n))) here ∙ found_same (tabulated cells n) n (cells n) (tabulated_out cells n n (omega arith)) ∙ ap cells (sym here)
-      | inr apart ↦ found_other (tabulated cells n) n x (cells n) apart ∙ tabulated_in cells n x (omega arith)
-    ]
-
--- the map of a look-up that finds nothing from 2 ^ 32 on has that look-up
-get_mapped : (cells : Cells) → ((a : ℕ) → 2 ^ 32 ≤ a → cells a ≡ None) → (a : ℕ) → finite.get (mapped cells) a ≡ cells a
-unfolding mapped
-get_mapped cells none a =
-    elim (cases_lt a (2 ^ 32)) [
-      | inl low ↦ tabulated_in cells (2 ^ 32) a low
-      | inr high ↦ tabulated_out cells (2 ^ 32) a high ∙ sym (none a high)
-    ]
 
 -- the image ends below the regions beside it
 pub image_ends : (image : ImageParts) → IsLaidOut image → (a : ℕ) → 0x80500000 ≤ a → image_cells image LOAD_BASE [] a ≡ None
@@ -55,7 +22,7 @@ start_high image laid a high =
     ap (λ x. either_of x (region_cell GUEST_REGIONS a)) (image_ends image laid a (omega arith)) ∙ region_cell_low 0x81000000 0x86000000 GUEST_REGIONS a guest_regions_rise (omega arith)
 
 pub start_is : (image : ImageParts) → IsLaidOut image → (s : Space) → ((a : ℕ) → finite.get s a ≡ start_cell image a) → s ≡ start_space image
-start_is image laid s same = same_space s (start_space image) (λ a. same a ∙ sym (get_mapped (start_cell image) (start_high image laid) a))
+start_is image laid s same = same_space s (start_space image) (λ a. same a ∙ sym (get_mapped_cells (start_cell image) (start_high image laid) a))
 
 region_cell_in : (regions : List Region) (i : ℕ) (d : Region) (a : ℕ) → i < length regions → (get_or regions i d).at ≤ a → a < (get_or regions i d).at + (get_or regions i d).len → region_cell regions a ≡ Some blank
 region_cell_in [] i d a less low high = absurd (omega arith)
@@ -76,5 +43,5 @@ pub stack_free : (image : ImageParts) → IsLaidOut image → (at n : ℕ) → 0
 stack_free image laid at n low high = fault_none Any (finite.get (start_space image)) at n (λ k less.
     let a = at + k in
     let same : wrapped a ≡ a = wrapped_below a (omega arith) in
-    let cell : finite.get (start_space image) (wrapped a) ≡ Some blank = ap (finite.get (start_space image)) same ∙ get_mapped (start_cell image) (start_high image laid) a ∙ stack_cell image laid a (omega arith) (omega arith) in
+    let cell : finite.get (start_space image) (wrapped a) ≡ Some blank = ap (finite.get (start_space image)) same ∙ get_mapped_cells (start_cell image) (start_high image laid) a ∙ stack_cell image laid a (omega arith) (omega arith) in
     ap (fault_in Any (address (wrapped a))) cell)

@@ -22,7 +22,7 @@ no_blank b c h k = elim (cases_Bool (eqb b c)) [
   | inr off ↦ off
 ]
 
-turned_blank : (inside : Bool) (b : ℕ) → IsBlank b → turned inside b ≡ inside
+pub turned_blank : (inside : Bool) (b : ℕ) → IsBlank b → turned inside b ≡ inside
 turned_blank inside b h = rw (no_blank b 34 h refl) refl
 
 pub open_blanks : (inside : Bool) (bs more : List ℕ) → AreBlanks bs → is_open inside (bs ++ more) ≡ is_open inside more

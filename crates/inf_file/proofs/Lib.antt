@@ -27,5 +27,6 @@ pub mod FaultLaws
 pub mod BlankLemmas
 pub mod WordLemmas
 pub mod LayoutLines
+pub mod EndLemmas
 pub mod LayoutFiles
 pub mod DistinctLaws

@@ -1,15 +1,16 @@
 -- Texts in quotes and words without them, with blanks around.
-use Rattle.std.proofs.Common.{inl, inr, ◌≡◌, ◌≢◌, ℕ, ◌+◌, Bool, true, false, eqb, List, [], ◌∷◌, ◌++◌, length, map, refl, sym, ap, ◌∙◌, arith, append_assoc, length-append, true≢false}
+use Rattle.std.proofs.Common.{inl, inr, ◌≡◌, ◌≢◌, ◌⊎◌, ℕ, suc, ◌+◌, ◌-◌, Bool, true, false, eqb, List, [], ◌∷◌, ◌++◌, length, map, refl, sym, ap, ◌∙◌, subst, arith, append_assoc, length-append, true≢false}
 use Rattle.std.specs.List.{AllByRecursion, onto_first}
-use Rattle.std.proofs.lemmas.Bool.{cases_Bool, eqb-true}
+use Rattle.std.proofs.lemmas.Bool.{cases_Bool, eqb-true, ne_eqb}
 use Rattle.std.proofs.lemmas.List.{append-nil}
 use Rattle.inf_file.specs.Quotes.{is_blank, turned, is_open, front_len, trimmed_start, trimmed_end, resolved_behind, value, parts, values}
+use Rattle.inf_file.specs.Joining.{last_of}
 use Rattle.inf_file.specs.Written.{quoted, doubled, HasNoFeed}
-use Rattle.inf_file.specs.Layout.{Layout, AreBlanks, IsLayout, IsWord, needs_quotes, spelled, spaced, spaced_values}
+use Rattle.inf_file.specs.Layout.{Setting, AreBlanks, IsNoBlank, IsSetting, IsWord, needs_quotes, spelled, spaced, spaced_values}
 use Rattle.inf_file.proofs.QuoteLoops.{end_other}
 use Rattle.inf_file.proofs.WrittenLines.{quoted_more, open_quoted, front_quoted, parts_quoted, no_parts, parts_comma}
 use Rattle.inf_file.proofs.WrittenFiles.{feeds-append, feeds-quoted}
-use Rattle.inf_file.proofs.BlankLemmas.{open_blanks, front_blanks, parts_blanks, end_blanks, value_blanks, value_behind}
+use Rattle.inf_file.proofs.BlankLemmas.{open_blanks, front_blanks, parts_blanks, start_blanks, end_blanks, value_blanks, value_behind}
 
 abbrev ArePlain : List ℕ → Type 0
 ArePlain v = AllByRecursion (λ c. needs_quotes c ≡ false) v
@@ -19,9 +20,6 @@ plain_not c d h k = elim (cases_Bool (eqb c d)) [
   | inl on ↦ absurd (true≢false (sym k ∙ sym (ap needs_quotes (eqb-true c d on)) ∙ h))
   | inr off ↦ off
 ]
-
-plain_blank : (c : ℕ) → needs_quotes c ≡ false → is_blank c ≡ false
-plain_blank c h = rw (plain_not c 32 h refl, plain_not c 9 h refl) refl
 
 plain_turned : (c : ℕ) → needs_quotes c ≡ false → turned false c ≡ false
 plain_turned c h = rw (plain_not c 34 h refl) refl
@@ -71,19 +69,41 @@ pub record Begins (text : List ℕ) : Type 0 where
   pub is_first : is_blank first ≡ false
   pub no_header : eqb first 91 ≡ false
 
-word_ends : (c : ℕ) (cs : List ℕ) → ArePlain (c ∷ cs) → Ends (c ∷ cs)
-word_ends c [] h = record { front = []; last = c; ends = refl; is_last = plain_blank c h.0; no_join = plain_not c 92 h.0 refl; no_return = plain_not c 13 h.0 refl }
-word_ends c (d ∷ ds) h = let r = word_ends d ds h.1 in record { front = c ∷ r.front; last = r.last; ends = ap (λ (xs : List ℕ). c ∷ xs) r.ends; is_last = r.is_last; no_join = r.no_join; no_return = r.no_return }
+no_blank_is : (c : ℕ) → IsNoBlank c → is_blank c ≡ false
+no_blank_is c h = rw (ne_eqb c 32 h.0, ne_eqb c 9 h.1) refl
 
-starts_word : (c : ℕ) (cs : List ℕ) → needs_quotes c ≡ false → trimmed_start (c ∷ cs) ≡ c ∷ cs
+pub last_more : (c d : ℕ) (ds : List ℕ) → last_of (c ∷ d ∷ ds) ≡ last_of (d ∷ ds)
+last_more c d ds =
+    let e : suc (suc (length ds)) - 1 ≡ suc (length ds) = omega arith in
+    let f : suc (length ds) - 1 ≡ length ds = omega arith in
+    rw (e, f) refl
+
+last_plain : (c : ℕ) (cs : List ℕ) → ArePlain (c ∷ cs) → needs_quotes (last_of (c ∷ cs)) ≡ false
+last_plain c [] h = h.0
+last_plain c (d ∷ ds) h = ap needs_quotes (last_more c d ds) ∙ last_plain d ds h.1
+
+last_apart : (c : ℕ) (cs : List ℕ) → (front : List ℕ) × (c ∷ cs ≡ front ++ last_of (c ∷ cs) ∷ [])
+last_apart c [] = ([], refl)
+last_apart c (d ∷ ds) = let r = last_apart d ds in (c ∷ r.0, ap (λ (xs : List ℕ). c ∷ xs) r.1 ∙ ap (λ (e : ℕ). c ∷ (r.0 ++ e ∷ [])) (sym (last_more c d ds)))
+
+word_ends : (c : ℕ) (cs : List ℕ) → IsWord (c ∷ cs) → Ends (c ∷ cs)
+word_ends c cs w =
+    let r = last_apart c cs in
+    record { front = r.0; last = last_of (c ∷ cs); ends = r.1; is_last = no_blank_is (last_of (c ∷ cs)) w.ends; no_join = ne_eqb (last_of (c ∷ cs)) 92 w.no_join; no_return = plain_not (last_of (c ∷ cs)) 13 (last_plain c cs w.plain) refl }
+
+starts_word : (c : ℕ) (cs : List ℕ) → is_blank c ≡ false → trimmed_start (c ∷ cs) ≡ c ∷ cs
 unfolding trimmed_start
-starts_word c cs h = rw (plain_blank c h) refl
+starts_word c cs h = rw h refl
+
+value_of_blanks : (bs : List ℕ) → AreBlanks bs → value bs ≡ []
+unfolding trimmed_start trimmed_end resolved_behind
+value_of_blanks bs h = ap (λ (cs : List ℕ). resolved_behind 0 false (trimmed_end cs)) (ap trimmed_start (sym (append-nil bs)) ∙ start_blanks bs [] h)
 
 value_word : (v bs : List ℕ) → IsWord v → AreBlanks bs → value (v ++ bs) ≡ v
-value_word [] bs w h = absurd (w.some refl)
+value_word [] bs w h = value_of_blanks bs h
 value_word (c ∷ cs) bs w h =
-    let e = word_ends c cs w.plain in
-    ap (λ (xs : List ℕ). resolved_behind 0 false (trimmed_end xs)) (starts_word c (cs ++ bs) (w.plain.0))
+    let e = word_ends c cs w in
+    ap (λ (xs : List ℕ). resolved_behind 0 false (trimmed_end xs)) (starts_word c (cs ++ bs) (no_blank_is c w.begins))
     ∙ ap (resolved_behind 0 false) (end_blanks (c ∷ cs) bs h ∙ ap trimmed_end e.ends ∙ end_other e.front e.last e.is_last ∙ sym e.ends)
     ∙ resolved_word 0 (c ∷ cs) w.plain
 
@@ -129,98 +149,111 @@ module _ (v : List ℕ) where
   quoted_begins : Begins (quoted v)
   quoted_begins = record { first = 34; rest = doubled v ++ 34 ∷ []; begins = refl; is_first = refl; no_header = refl }
 
-ends_spelled : (b : Bool) (v : List ℕ) → Fits b v → Ends (spelled b v)
+ends_spelled : (b : Bool) (v : List ℕ) → Fits b v → (spelled b v ≡ []) ⊎ Ends (spelled b v)
 unfolding Fits
-ends_spelled true [] w = absurd (w.some refl)
-ends_spelled true (c ∷ cs) w = word_ends c cs w.plain
-ends_spelled false v w = quoted_ends v
+ends_spelled true [] w = inl refl
+ends_spelled true (c ∷ cs) w = inr (word_ends c cs w)
+ends_spelled false v w = inr (quoted_ends v)
 
-pub begins_spelled : (b : Bool) (v : List ℕ) → Fits b v → Begins (spelled b v)
+pub begins_spelled : (b : Bool) (v : List ℕ) → Fits b v → (spelled b v ≡ []) ⊎ Begins (spelled b v)
 unfolding Fits
-begins_spelled true [] w = absurd (w.some refl)
-begins_spelled true (c ∷ cs) w = record { first = c; rest = cs; begins = refl; is_first = plain_blank c w.plain.0; no_header = plain_not c 91 w.plain.0 refl }
-begins_spelled false v w = quoted_begins v
+begins_spelled true [] w = inl refl
+begins_spelled true (c ∷ cs) w = inr (record { first = c; rest = cs; begins = refl; is_first = no_blank_is c w.begins; no_header = plain_not c 91 w.plain.0 refl })
+begins_spelled false v w = inr (quoted_begins v)
+
+-- what a line has behind the blanks in front
+pub record Trimmed (text : List ℕ) : Type 0 where
+  pub blanks : List ℕ
+  pub are : AreBlanks blanks
+  pub behind : List ℕ
+  pub text_is : text ≡ blanks ++ behind
+  pub begins : Begins behind
+
+pub blanks_append : (xs ys : List ℕ) → AreBlanks xs → AreBlanks ys → AreBlanks (xs ++ ys)
+blanks_append [] ys h k = k
+blanks_append (x ∷ xs) ys h k = (h.0, blanks_append xs ys h.1 k)
 
 -- ---- with blanks around
 
-module _ (l : Layout) (is : IsLayout l) where
-  pub fits_in : (v : List ℕ) → Fits (l.bare v) v
-  fits_in v = fits v (l.bare v) (is.bare v)
+module _ (s : Setting) (is : IsSetting s) where
+  pub fits_in : (v : List ℕ) → Fits (s.bare v) v
+  fits_in v = fits v (s.bare v) (is.bare v)
 
-  pub spaced_more : (v more : List ℕ) → spaced l v ++ more ≡ l.before ++ (spelled (l.bare v) v ++ (l.behind ++ more))
-  spaced_more v more = append_assoc l.before (spelled (l.bare v) v ++ l.behind) more ∙ ap (λ (xs : List ℕ). l.before ++ xs) (append_assoc (spelled (l.bare v) v) l.behind more)
+  pub spaced_more : (v more : List ℕ) → spaced s v ++ more ≡ s.before ++ (spelled (s.bare v) v ++ (s.behind ++ more))
+  spaced_more v more = append_assoc s.before (spelled (s.bare v) v ++ s.behind) more ∙ ap (λ (xs : List ℕ). s.before ++ xs) (append_assoc (spelled (s.bare v) v) s.behind more)
 
-  pub value_spaced : (v : List ℕ) → value (spaced l v) ≡ v
-  value_spaced v = value_blanks l.before (spelled (l.bare v) v ++ l.behind) is.before ∙ value_spelled v (l.bare v) l.behind (fits_in v) is.behind
+  pub value_spaced : (v : List ℕ) → value (spaced s v) ≡ v
+  value_spaced v = value_blanks s.before (spelled (s.bare v) v ++ s.behind) is.before ∙ value_spelled v (s.bare v) s.behind (fits_in v) is.behind
 
-  pub value_behind_key : (v : List ℕ) → value (spelled (l.bare v) v ++ l.behind) ≡ v
-  value_behind_key v = value_spelled v (l.bare v) l.behind (fits_in v) is.behind
+  pub open_behind : (v more : List ℕ) → is_open false (spelled (s.bare v) v ++ (s.behind ++ more)) ≡ is_open false more
+  open_behind v more = open_spelled v (s.bare v) (s.behind ++ more) (fits_in v) ∙ open_blanks false s.behind more is.behind
 
-  pub open_behind : (v more : List ℕ) → is_open false (spelled (l.bare v) v ++ (l.behind ++ more)) ≡ is_open false more
-  open_behind v more = open_spelled v (l.bare v) (l.behind ++ more) (fits_in v) ∙ open_blanks false l.behind more is.behind
-
-  pub open_spaced : (v more : List ℕ) → is_open false (spaced l v ++ more) ≡ is_open false more
-  open_spaced v more = ap (is_open false) (spaced_more v more) ∙ open_blanks false l.before _ is.before ∙ open_behind v more
+  pub open_spaced : (v more : List ℕ) → is_open false (spaced s v ++ more) ≡ is_open false more
+  open_spaced v more = ap (is_open false) (spaced_more v more) ∙ open_blanks false s.before _ is.before ∙ open_behind v more
 
   pub front_behind : (mark : ℕ) (v more : List ℕ) → eqb 34 mark ≡ false → is_blank mark ≡ false → needs_quotes mark ≡ true
-      → front_len mark false (spelled (l.bare v) v ++ (l.behind ++ more)) ≡ length (spelled (l.bare v) v ++ l.behind) + front_len mark false more
-  front_behind mark v more ne nb m = omega (arith, front_spelled v (l.bare v) mark (l.behind ++ more) (fits_in v) ne m, front_blanks mark l.behind more nb is.behind, length-append (spelled (l.bare v) v) l.behind)
+      → front_len mark false (spelled (s.bare v) v ++ (s.behind ++ more)) ≡ length (spelled (s.bare v) v ++ s.behind) + front_len mark false more
+  front_behind mark v more ne nb m = omega (arith, front_spelled v (s.bare v) mark (s.behind ++ more) (fits_in v) ne m, front_blanks mark s.behind more nb is.behind, length-append (spelled (s.bare v) v) s.behind)
 
-  pub front_spaced : (mark : ℕ) (v more : List ℕ) → eqb 34 mark ≡ false → is_blank mark ≡ false → needs_quotes mark ≡ true → front_len mark false (spaced l v ++ more) ≡ length (spaced l v) + front_len mark false more
+  pub front_spaced : (mark : ℕ) (v more : List ℕ) → eqb 34 mark ≡ false → is_blank mark ≡ false → needs_quotes mark ≡ true → front_len mark false (spaced s v ++ more) ≡ length (spaced s v) + front_len mark false more
   front_spaced mark v more ne nb m =
       ap (front_len mark false) (spaced_more v more)
-      ∙ omega (arith, front_blanks mark l.before (spelled (l.bare v) v ++ (l.behind ++ more)) nb is.before, front_behind mark v more ne nb m, length-append l.before (spelled (l.bare v) v ++ l.behind))
+      ∙ omega (arith, front_blanks mark s.before (spelled (s.bare v) v ++ (s.behind ++ more)) nb is.before, front_behind mark v more ne nb m, length-append s.before (spelled (s.bare v) v ++ s.behind))
 
-  parts_spaced : (v more p : List ℕ) (ps : List (List ℕ)) → parts false more ≡ p ∷ ps → parts false (spaced l v ++ more) ≡ (spaced l v ++ p) ∷ ps
+  parts_spaced : (v more p : List ℕ) (ps : List (List ℕ)) → parts false more ≡ p ∷ ps → parts false (spaced s v ++ more) ≡ (spaced s v ++ p) ∷ ps
   parts_spaced v more p ps h =
       ap (parts false) (spaced_more v more)
-      ∙ parts_blanks l.before _ _ ps is.before (parts_spelled v (l.bare v) (l.behind ++ more) (l.behind ++ p) ps (fits_in v) (parts_blanks l.behind more p ps is.behind h))
+      ∙ parts_blanks s.before _ _ ps is.before (parts_spelled v (s.bare v) (s.behind ++ more) (s.behind ++ p) ps (fits_in v) (parts_blanks s.behind more p ps is.behind h))
       ∙ ap (λ (xs : List ℕ). xs ∷ ps) (sym (spaced_more v p))
-
-  pub values_spaced : (vs : List (List ℕ)) → vs ≢ [] → values (spaced_values l vs) ≡ vs
-  unfolding spaced_values
-  values_spaced [] h = absurd (h refl)
-  values_spaced (v ∷ []) h =
-      ap (λ (cs : List ℕ). values cs) (sym (append-nil (spaced l v))) ∙ ap (map value) (parts_spaced v [] [] [] no_parts)
-      ∙ ap (λ (x : List ℕ). value x ∷ []) (append-nil (spaced l v)) ∙ ap (λ (x : List ℕ). x ∷ []) (value_spaced v)
-  values_spaced (v ∷ w ∷ vs) h =
-      ap (map value) (parts_spaced v (44 ∷ spaced_values l (w ∷ vs)) [] (parts false (spaced_values l (w ∷ vs))) (parts_comma (spaced_values l (w ∷ vs))))
-      ∙ ap (λ (x : List ℕ). value x ∷ values (spaced_values l (w ∷ vs))) (append-nil (spaced l v))
-      ∙ ap (λ (x : List ℕ). x ∷ values (spaced_values l (w ∷ vs))) (value_spaced v) ∙ ap (λ (xs : List (List ℕ)). v ∷ xs) (values_spaced (w ∷ vs) (λ e. cc))
-
-  pub open_spaced_values : (vs : List (List ℕ)) → is_open false (spaced_values l vs) ≡ false
-  unfolding spaced_values is_open
-  open_spaced_values [] = refl
-  open_spaced_values (v ∷ []) = ap (is_open false) (sym (append-nil (spaced l v))) ∙ open_spaced v []
-  open_spaced_values (v ∷ w ∷ vs) = open_spaced v (44 ∷ spaced_values l (w ∷ vs)) ∙ open_spaced_values (w ∷ vs)
-
-  pub front_spaced_values : (mark : ℕ) (vs : List (List ℕ)) → eqb 34 mark ≡ false → eqb 44 mark ≡ false → is_blank mark ≡ false → needs_quotes mark ≡ true → front_len mark false (spaced_values l vs) ≡ length (spaced_values l vs)
-  unfolding spaced_values front_len
-  front_spaced_values mark [] ne nc nb m = refl
-  front_spaced_values mark (v ∷ []) ne nc nb m = ap (front_len mark false) (sym (append-nil (spaced l v))) ∙ front_spaced mark v [] ne nb m ∙ omega arith
-  front_spaced_values mark (v ∷ w ∷ vs) ne nc nb m =
-      front_spaced mark v (44 ∷ spaced_values l (w ∷ vs)) ne nb m ∙ rw nc (omega (arith, front_spaced_values mark (w ∷ vs) ne nc nb m, length-append (spaced l v) (44 ∷ spaced_values l (w ∷ vs))))
-
-  -- what a line has behind the blanks in front
-  pub record Trimmed (text : List ℕ) : Type 0 where
-    pub behind : List ℕ
-    pub text_is : text ≡ l.before ++ behind
-    pub begins : Begins behind
 
   pub begins_more : (text more : List ℕ) → Begins text → Begins (text ++ more)
   begins_more text more b = record { first = b.first; rest = b.rest ++ more; begins = ap (λ (xs : List ℕ). xs ++ more) b.begins; is_first = b.is_first; no_header = b.no_header }
 
-  abbrev pub trimmed_more : (v more : List ℕ) → Trimmed (spaced l v ++ more)
-  trimmed_more v more = record { behind = spelled (l.bare v) v ++ (l.behind ++ more); text_is = spaced_more v more; begins = begins_more (spelled (l.bare v) v) (l.behind ++ more) (begins_spelled (l.bare v) v (fits_in v)) }
+  pub none_spaced : (v : List ℕ) → spelled (s.bare v) v ≡ [] → spaced s v ≡ s.before ++ s.behind
+  none_spaced v none = ap (λ (xs : List ℕ). s.before ++ (xs ++ s.behind)) none
 
-  pub trimmed_values : (vs : List (List ℕ)) → vs ≢ [] → Trimmed (spaced_values l vs)
+  pub trimmed_more : (v : List ℕ) (c : ℕ) (rest : List ℕ) → is_blank c ≡ false → eqb c 91 ≡ false → Trimmed (spaced s v ++ c ∷ rest)
+  trimmed_more v c rest nb nh = elim (begins_spelled (s.bare v) v (fits_in v)) [
+    | inl none ↦ record { blanks = s.before ++ s.behind; are = blanks_append s.before s.behind is.before is.behind; behind = c ∷ rest; text_is = ap (λ (xs : List ℕ). xs ++ c ∷ rest) (none_spaced v none); begins = record { first = c; rest = rest; begins = refl; is_first = nb; no_header = nh } }
+    | inr b ↦ record { blanks = s.before; are = is.before; behind = spelled (s.bare v) v ++ (s.behind ++ c ∷ rest); text_is = spaced_more v (c ∷ rest); begins = begins_more (spelled (s.bare v) v) (s.behind ++ c ∷ rest) b }
+  ]
+
+  pub feeds_spaced : (v : List ℕ) → HasNoFeed s.before → HasNoFeed s.behind → HasNoFeed v → HasNoFeed (spaced s v)
+  feeds_spaced v b d h = feeds-append s.before (spelled (s.bare v) v ++ s.behind) b (feeds-append (spelled (s.bare v) v) s.behind (feeds_spelled v (s.bare v) (fits_in v) h) d)
+
+  pub spelled_ends : (v : List ℕ) → (spelled (s.bare v) v ≡ []) ⊎ Ends (spelled (s.bare v) v)
+  spelled_ends v = ends_spelled (s.bare v) v (fits_in v)
+
+module _ (settings : ℕ → Setting) (are : (n : ℕ) → IsSetting (settings n)) where
+  pub values_spaced : (vs : List (List ℕ)) (n : ℕ) → vs ≢ [] → values (spaced_values settings n vs) ≡ vs
   unfolding spaced_values
-  trimmed_values [] h = absurd (h refl)
-  trimmed_values (v ∷ []) h = record { behind = spelled (l.bare v) v ++ l.behind; text_is = refl; begins = begins_more (spelled (l.bare v) v) l.behind (begins_spelled (l.bare v) v (fits_in v)) }
-  trimmed_values (v ∷ w ∷ vs) h = trimmed_more v (44 ∷ spaced_values l (w ∷ vs))
+  values_spaced [] n h = absurd (h refl)
+  values_spaced (v ∷ []) n h =
+      ap (λ (cs : List ℕ). values cs) (sym (append-nil (spaced (settings n) v))) ∙ ap (map value) (parts_spaced (settings n) (are n) v [] [] [] no_parts)
+      ∙ ap (λ (x : List ℕ). value x ∷ []) (append-nil (spaced (settings n) v)) ∙ ap (λ (x : List ℕ). x ∷ []) (value_spaced (settings n) (are n) v)
+  values_spaced (v ∷ w ∷ vs) n h =
+      ap (map value) (parts_spaced (settings n) (are n) v (44 ∷ spaced_values settings (n + 1) (w ∷ vs)) [] (parts false (spaced_values settings (n + 1) (w ∷ vs))) (parts_comma (spaced_values settings (n + 1) (w ∷ vs))))
+      ∙ ap (λ (x : List ℕ). value x ∷ values (spaced_values settings (n + 1) (w ∷ vs))) (append-nil (spaced (settings n) v))
+      ∙ ap (λ (x : List ℕ). x ∷ values (spaced_values settings (n + 1) (w ∷ vs))) (value_spaced (settings n) (are n) v) ∙ ap (λ (xs : List (List ℕ)). v ∷ xs) (values_spaced (w ∷ vs) (n + 1) (λ e. cc))
 
-  pub feeds_spaced : (v : List ℕ) → HasNoFeed l.before → HasNoFeed l.behind → HasNoFeed v → HasNoFeed (spaced l v)
-  feeds_spaced v b d h = feeds-append l.before (spelled (l.bare v) v ++ l.behind) b (feeds-append (spelled (l.bare v) v) l.behind (feeds_spelled v (l.bare v) (fits_in v) h) d)
+  pub open_spaced_values : (vs : List (List ℕ)) (n : ℕ) → is_open false (spaced_values settings n vs) ≡ false
+  unfolding spaced_values is_open
+  open_spaced_values [] n = refl
+  open_spaced_values (v ∷ []) n = ap (is_open false) (sym (append-nil (spaced (settings n) v))) ∙ open_spaced (settings n) (are n) v []
+  open_spaced_values (v ∷ w ∷ vs) n = open_spaced (settings n) (are n) v (44 ∷ spaced_values settings (n + 1) (w ∷ vs)) ∙ open_spaced_values (w ∷ vs) (n + 1)
 
-  pub spelled_ends : (v : List ℕ) → Ends (spelled (l.bare v) v)
-  spelled_ends v = ends_spelled (l.bare v) v (fits_in v)
+  pub front_spaced_values : (mark : ℕ) (vs : List (List ℕ)) (n : ℕ) → eqb 34 mark ≡ false → eqb 44 mark ≡ false → is_blank mark ≡ false → needs_quotes mark ≡ true → front_len mark false (spaced_values settings n vs) ≡ length (spaced_values settings n vs)
+  unfolding spaced_values front_len
+  front_spaced_values mark [] n ne nc nb m = refl
+  front_spaced_values mark (v ∷ []) n ne nc nb m = ap (front_len mark false) (sym (append-nil (spaced (settings n) v))) ∙ front_spaced (settings n) (are n) mark v [] ne nb m ∙ omega arith
+  front_spaced_values mark (v ∷ w ∷ vs) n ne nc nb m =
+      front_spaced (settings n) (are n) mark v (44 ∷ spaced_values settings (n + 1) (w ∷ vs)) ne nb m ∙ rw nc (omega (arith, front_spaced_values mark (w ∷ vs) (n + 1) ne nc nb m, length-append (spaced (settings n) v) (44 ∷ spaced_values settings (n + 1) (w ∷ vs))))
+
+  pub trimmed_values : (vs : List (List ℕ)) (n : ℕ) → vs ≢ [] → (AreBlanks (spaced_values settings n vs) → ⊥) → Trimmed (spaced_values settings n vs)
+  unfolding spaced_values
+  trimmed_values [] n h k = absurd (h refl)
+  trimmed_values (v ∷ []) n h k = elim (begins_spelled ((settings n).bare v) v (fits_in (settings n) (are n) v)) [
+    | inl none ↦ absurd (k (subst (λ (cs : List ℕ). AreBlanks cs) (sym (none_spaced (settings n) (are n) v none)) (blanks_append (settings n).before (settings n).behind (are n).before (are n).behind)))
+    | inr b ↦ record { blanks = (settings n).before; are = (are n).before; behind = spelled ((settings n).bare v) v ++ (settings n).behind; text_is = refl; begins = begins_more (settings n) (are n) (spelled ((settings n).bare v) v) (settings n).behind b }
+  ]
+  trimmed_values (v ∷ w ∷ vs) n h k = trimmed_more (settings n) (are n) v 44 (spaced_values settings (n + 1) (w ∷ vs)) refl refl

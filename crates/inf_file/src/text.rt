@@ -6,7 +6,7 @@ ghost use Rattle.inf_file.specs.Sections.{Section as InfSection, is_same};
 ghost use Rattle.inf_file.specs.Outcome.{Gives};
 ghost use Rattle.inf_file.specs.Characters.{characters};
 ghost use Rattle.inf_file.specs.Written.{written, AreSectionsFrom};
-ghost use Rattle.inf_file.specs.Layout.{Layout as LineLayout, IsLayout, laid_out};
+ghost use Rattle.inf_file.specs.Layout.{Layout as LineLayout, IsLayout, laid_out, IsTextOf, ArePiecesAt, gathered};
 ghost use Rattle.inf_file.specs.Joining.{joined};
 ghost use Rattle.inf_file.specs.Quotes.{is_open, trimmed_start, cut};
 ghost use Rattle.inf_file.specs.Reading.{with_header, entry, with_entry, with_joined, with_all, sections_of_lines, sections_of, IsWithin};
@@ -159,8 +159,10 @@ pub fn written_is_read()
     ensures { (bytes : List ℕ) (ss : List InfSection) → length bytes ≤ 1048576 → characters bytes ≡ Ok (written ss) → AreSectionsFrom 1 [] ss → sections_of bytes ≡ Ok ss }
 {}
 
-/// The same holds whatever layout each line has: blanks around brackets, names, keys and values,
-/// words without quotes, a comment at its end, and a line feed with a carriage return or without.
+/// The same holds whatever layout each line has: blanks around names, keys and values, words
+/// without quotes, comments, carriage returns in front of line feeds, lines above it that say
+/// nothing, and backslashes that break it anywhere. The last line feed may be missing, a section may
+/// stand in several pieces, and a line has the number of its first line in the file.
 pub fn laid_out_is_read()
-    ensures { (layout : ℕ → LineLayout) → ((n : ℕ) → IsLayout (layout n)) → (bytes : List ℕ) (ss : List InfSection) → length bytes ≤ 1048576 → characters bytes ≡ Ok (laid_out layout 1 ss) → AreSectionsFrom 1 [] ss → sections_of bytes ≡ Ok ss }
+    ensures { (layout : ℕ → LineLayout) → ((n : ℕ) → IsLayout (layout n)) → (bytes text : List ℕ) (pieces : List InfSection) → length bytes ≤ 1048576 → characters bytes ≡ Ok text → IsTextOf (laid_out layout 1 pieces) text → ArePiecesAt layout 1 pieces → sections_of bytes ≡ Ok (gathered [] pieces) }
 {}

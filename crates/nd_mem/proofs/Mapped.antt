@@ -40,13 +40,17 @@ get_tabulated cells (suc n) x below =
       | inr earlier ↦ get_found_other (tabulated cells n) n x (cells n) earlier ∙ get_tabulated cells n x (omega arith)
     ]
 
-get_mapped_at : (regions : List Region) → AreLaidOut regions → (x : ℕ) → map.get (mapped (cells_of regions)) x ≡ cells_of regions x
+-- the map of a look-up that finds nothing from 2 ^ 32 on has that look-up
+pub get_mapped_cells : (cells : Cells) → ((a : ℕ) → 2 ^ 32 ≤ a → cells a ≡ None) → (x : ℕ) → map.get (mapped cells) x ≡ cells x
 unfolding mapped
-get_mapped_at regions laid_out x =
+get_mapped_cells cells none x =
     elim (cases_lt x (2 ^ 32)) [
-      | inl below ↦ get_tabulated (cells_of regions) (2 ^ 32) x below
-      | inr above ↦ get_tabulated_above (cells_of regions) (2 ^ 32) x above ∙ sym (cells_of-low regions laid_out x (omega arith))
+      | inl below ↦ get_tabulated cells (2 ^ 32) x below
+      | inr above ↦ get_tabulated_above cells (2 ^ 32) x above ∙ sym (none x above)
     ]
+
+get_mapped_at : (regions : List Region) → AreLaidOut regions → (x : ℕ) → map.get (mapped (cells_of regions)) x ≡ cells_of regions x
+get_mapped_at regions laid_out x = get_mapped_cells (cells_of regions) (λ a above. cells_of-low regions laid_out a (omega arith)) x
 
 -- the look-up of the map is that of the regions
 pub get_mapped : (regions : List Region) → AreLaidOut regions → map.get (mapped (cells_of regions)) ≡ cells_of regions

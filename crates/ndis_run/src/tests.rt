@@ -53,16 +53,24 @@ fn files_with(alloc: Global, code: &[u8]) -> Result<MemFiles, Fail> {
     Ok(files)
 }
 
-fn words(alloc: Global) -> Result<Vec<String>, AllocError> {
+const RUN: [&str; 3] = ["run0", "driver.sys", "run.log"];
+
+fn words(alloc: Global, row: &[&str]) -> Result<Vec<String>, AllocError> {
     let mut words = Vec::new(alloc);
-    words.push(String::from_str(alloc, "run0")?)?;
-    words.push(String::from_str(alloc, "driver.sys")?)?;
-    words.push(String::from_str(alloc, "run.log")?)?;
+    for word in row {
+        words.push(String::from_str(alloc, word)?)?;
+    }
     Ok(words)
 }
 
-fn run(alloc: Global, files: &mut MemFiles, out: &mut MemSink) -> Result<u8, Fail> {
-    let words = words(alloc)?;
+/// The status that these words end with.
+fn end_of(
+    alloc: Global,
+    row: &[&str],
+    files: &mut MemFiles,
+    out: &mut MemSink,
+) -> Result<u8, Fail> {
+    let words = words(alloc, row)?;
     Ok(tool_main(alloc, &words, files, out))
 }
 
@@ -70,7 +78,7 @@ fn run(alloc: Global, files: &mut MemFiles, out: &mut MemSink) -> Result<u8, Fai
 fn run_failing(alloc: Global, call: u64, out: &mut MemSink) -> Result<(u8, MemFiles), Fail> {
     let mut files = files_with(alloc, &RETURNS)?;
     files.fail(call)?;
-    let status = run(alloc, &mut files, out)?;
+    let status = end_of(alloc, &RUN, &mut files, out)?;
     Ok((status, files))
 }
 
@@ -79,7 +87,7 @@ fn runs_to_the_return(rt: HostRuntime) -> Result<(), Fail> {
     let alloc = rt.alloc();
     let mut files = files_with(alloc, &RETURNS)?;
     let mut out = MemSink::new(alloc);
-    let words = words(alloc)?;
+    let words = words(alloc, &RUN)?;
     let status = ndis_main(alloc, &rt, &words, &mut files, &mut out, &OpenGate);
     assert_eq!(rt; status, 0);
     let log = files.get("run.log").ok_or("no log")?;
@@ -97,7 +105,7 @@ fn runs_to_the_budget(rt: HostRuntime) -> Result<(), Fail> {
     let alloc = rt.alloc();
     let mut files = files_with(alloc, &[0xEB, 0xFE])?;
     let mut out = MemSink::new(alloc);
-    assert_eq!(rt; run(alloc, &mut files, &mut out)?, 1);
+    assert_eq!(rt; end_of(alloc, &RUN, &mut files, &mut out)?, 1);
     let log = files.get("run.log").ok_or("no log")?;
     // The line of the enter, and 62,500 of `turn 0 64`.
     assert_eq!(rt; log.len(), 42 + 62_500 * 10);
@@ -118,7 +126,7 @@ fn faults(
 ) -> Result<(), Fail> {
     let mut files = files_with(alloc, code)?;
     let mut out = MemSink::new(alloc);
-    assert_eq!(rt; run(alloc, &mut files, &mut out)?, 1);
+    assert_eq!(rt; end_of(alloc, &RUN, &mut files, &mut out)?, 1);
     let text = files.get("run.log").ok_or("no log")?;
     assert!(rt; text.ends_with(log));
     assert_eq!(rt; text.len(), 42 + log.len());
@@ -153,7 +161,7 @@ fn moves_byte_by_byte(rt: HostRuntime) -> Result<(), Fail> {
     let files = files_with(alloc, &RETURNS)?;
     let mut files = Bytewise { files };
     let mut out = MemSink::new(alloc);
-    let words = words(alloc)?;
+    let words = words(alloc, &RUN)?;
     assert_eq!(rt; tool_main(alloc, &words, &mut files, &mut out), 0);
     let log = files.files.get("run.log").ok_or("no log")?;
     let text = b"enter - 0 driverentry e0000000,e0000008 -\nturn 0 3\nleave 0 00000000\n";
@@ -171,7 +179,7 @@ fn refuses_an_empty_image(rt: HostRuntime) -> Result<(), Fail> {
     let mut files = MemFiles::new(alloc);
     files.put("driver.sys", b"")?;
     let mut out = MemSink::new(alloc);
-    assert_eq!(rt; run(alloc, &mut files, &mut out)?, 5);
+    assert_eq!(rt; end_of(alloc, &RUN, &mut files, &mut out)?, 5);
     assert!(rt; files.get("run.log").is_none());
     assert_eq!(rt; out.written(), b"image short 0\n".as_slice());
     Ok(())
@@ -181,11 +189,7 @@ fn refuses_an_empty_image(rt: HostRuntime) -> Result<(), Fail> {
 fn no_form(rt: &impl Abort, alloc: Global, row: &[&str]) -> Result<(), Fail> {
     let mut files = MemFiles::new(alloc);
     let mut out = MemSink::new(alloc);
-    let mut words = Vec::new(alloc);
-    for word in row {
-        words.push(String::from_str(alloc, word)?)?;
-    }
-    assert_eq!(rt; tool_main(alloc, &words, &mut files, &mut out), 2);
+    assert_eq!(rt; end_of(alloc, row, &mut files, &mut out)?, 2);
     assert_eq!(rt; out.written(), b"words\n".as_slice());
     Ok(())
 }
@@ -239,7 +243,7 @@ fn ends_where_nothing_is_printed(rt: HostRuntime) -> Result<(), Fail> {
     let mut files = files_with(alloc, &RETURNS)?;
     let mut out = MemSink::new(alloc);
     out.fail(1)?;
-    assert_eq!(rt; run(alloc, &mut files, &mut out)?, 4);
+    assert_eq!(rt; end_of(alloc, &RUN, &mut files, &mut out)?, 4);
     assert_eq!(rt; files.get("run.log").ok_or("no log")?.len(), 68);
     assert_eq!(rt; out.written(), b"write -\n".as_slice());
     Ok(())
@@ -255,11 +259,7 @@ fn shows(
     text: &[u8],
 ) -> Result<(), Fail> {
     let mut out = MemSink::new(alloc);
-    let mut words = Vec::new(alloc);
-    for word in row {
-        words.push(String::from_str(alloc, word)?)?;
-    }
-    assert_eq!(rt; tool_main(alloc, &words, files, &mut out), status);
+    assert_eq!(rt; end_of(alloc, row, files, &mut out)?, status);
     assert_eq!(rt; out.written(), text);
     Ok(())
 }
@@ -334,9 +334,8 @@ fn importing(alloc: Global) -> Result<MemFiles, Fail> {
 fn refuses_an_unknown_import(rt: HostRuntime) -> Result<(), Fail> {
     let alloc = rt.alloc();
     let mut files = importing(alloc)?;
-    let row = ["run0", "driver.sys", "run.log"];
     let text = b"image unknown-import NdisMFooBar\n";
-    shows(&rt, alloc, &mut files, &row, 5, text)?;
+    shows(&rt, alloc, &mut files, &RUN, 5, text)?;
     assert!(rt; files.get("run.log").is_none());
     let text = b"image base 80100000 entry 00001000 size 00002000\n\
 section .text 00001000 00000080 00000080 r-x\n\

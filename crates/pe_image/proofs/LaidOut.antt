@@ -45,11 +45,11 @@ behind_headers image earlier header free some =
     omega (arith, ltb-false (max header.virtual_address 0) (min (end_of header) image.header_size) both.0)
 
 -- each section that is right
-record IsPlaced (image : OptionalHeader) (file_size : ℕ) (header : SectionHeader) : Type 0 where
-  place : IsInside image file_size header
-  behind : 0 < span_of header → image.header_size ≤ header.virtual_address
+pub record IsPlaced (image : OptionalHeader) (file_size : ℕ) (header : SectionHeader) : Type 0 where
+  pub place : IsInside image file_size header
+  pub behind : 0 < span_of header → image.header_size ≤ header.virtual_address
 
-all_placed : (image : OptionalHeader) (file_size : ℕ) (earlier headers : List SectionHeader) (x : Unit {0}) → sections_judged image file_size earlier headers ≡ Ok x → All (IsPlaced image file_size) headers
+pub all_placed : (image : OptionalHeader) (file_size : ℕ) (earlier headers : List SectionHeader) (x : Unit {0}) → sections_judged image file_size earlier headers ≡ Ok x → All (IsPlaced image file_size) headers
 unfolding sections_judged
 all_placed image file_size earlier [] x e = All-nil (IsPlaced image file_size)
 all_placed image file_size earlier (header ∷ headers) x e =
@@ -58,7 +58,7 @@ all_placed image file_size earlier (header ∷ headers) x e =
     All-cons (IsPlaced image file_size) header headers (record { place = right.place; behind = behind_headers image earlier header right.free }) (all_placed image file_size (earlier ++ header ∷ []) headers x a.2)
 
 -- no two of them meet
-abbrev MeetsNone : SectionHeader → SectionHeader → Type 0
+abbrev pub MeetsNone : SectionHeader → SectionHeader → Type 0
 MeetsNone other header = meets header other.virtual_address (end_of other) ≡ false
 
 none_met : (image : OptionalHeader) (earlier : List SectionHeader) (header : SectionHeader) → overlaps image earlier header ≡ false → All (λ other. MeetsNone other header) earlier
@@ -91,7 +91,7 @@ apart_from_first : (bytes : List ℕ) (header : SectionHeader) (headers : List S
 apart_from_first bytes header [] all = All-nil (AreApart (section_part bytes header))
 apart_from_first bytes header (h ∷ hs) all = All-cons (AreApart (section_part bytes header)) (section_part bytes h) (map (section_part bytes) hs) (are_apart bytes header h (all 0 h (omega arith))) (apart_from_first bytes header hs (λ k d less. all (suc k) d (omega arith)))
 
-all_apart : (image : OptionalHeader) (bytes : List ℕ) (file_size : ℕ) (earlier headers : List SectionHeader) (x : Unit {0}) → sections_judged image file_size earlier headers ≡ Ok x → AllPairs AreApart (map (section_part bytes) headers)
+pub all_apart : (image : OptionalHeader) (bytes : List ℕ) (file_size : ℕ) (earlier headers : List SectionHeader) (x : Unit {0}) → sections_judged image file_size earlier headers ≡ Ok x → AllPairs AreApart (map (section_part bytes) headers)
 unfolding sections_judged
 all_apart image bytes file_size earlier [] x e = λ i j d less within. absurd (omega arith)
 all_apart image bytes file_size earlier (header ∷ headers) x e =
@@ -102,13 +102,13 @@ all_apart image bytes file_size earlier (header ∷ headers) x e =
     (all_apart image bytes file_size (earlier ++ header ∷ []) headers x a.2)
 
 -- ---- what is in a section
-Any-later : (P : SectionPart → Type 0) (part : SectionPart) (parts : List SectionPart) → Any P parts → Any P (part ∷ parts)
+pub Any-later : (P : SectionPart → Type 0) (part : SectionPart) (parts : List SectionPart) → Any P parts → Any P (part ∷ parts)
 Any-later P part parts found = (suc found.0, found.1, omega (arith, found.2), found.3, found.4)
 
-Any-first : (P : SectionPart → Type 0) (part : SectionPart) (parts : List SectionPart) → P part → Any P (part ∷ parts)
+pub Any-first : (P : SectionPart → Type 0) (part : SectionPart) (parts : List SectionPart) → P part → Any P (part ∷ parts)
 Any-first P part parts here = (0, part, omega arith, refl, here)
 
-byte_held : (part : SectionPart) (rva : ℕ) → holds_byte part rva ≡ true → HoldsByte rva part
+pub byte_held : (part : SectionPart) (rva : ℕ) → holds_byte part rva ≡ true → HoldsByte rva part
 byte_held part rva e =
     let both = and_parts (nat_le part.section.rva rva) (nat_lt rva (part.section.rva + part.section.span)) e in
     record { from = leb-true part.section.rva rva both.0; to = ltb-true rva (part.section.rva + part.section.span) both.1 }
@@ -139,7 +139,7 @@ any_byte : (parts : List SectionPart) (rva : ℕ) → is_some (section_with part
 any_byte [] rva e = absurd cc
 any_byte (part ∷ parts) rva e = first_or_later part parts rva (holds_byte part rva) refl e (any_byte parts rva)
 
-byte_there : (o : Option SectionPart) (rva : ℕ) → is_some (option_map (λ part. byte_of part rva) o) ≡ true → is_some o ≡ true
+pub byte_there : (o : Option SectionPart) (rva : ℕ) → is_some (option_map (λ part. byte_of part rva) o) ≡ true → is_some o ≡ true
 byte_there None rva e = e
 byte_there (Some part) rva e = refl
 
@@ -156,7 +156,7 @@ four_held parts rva a b c d (suc (suc (suc zero))) less = d
 four_held parts rva a b c d (suc (suc (suc (suc k)))) less = absurd (omega arith)
 
 -- four values, where there are four
-four_there : (a b c d : Option ℕ) (word : ℕ) → word_from a b c d ≡ Some word → (is_some a ≡ true) × (is_some b ≡ true) × (is_some c ≡ true) × (is_some d ≡ true)
+pub four_there : (a b c d : Option ℕ) (word : ℕ) → word_from a b c d ≡ Some word → (is_some a ≡ true) × (is_some b ≡ true) × (is_some c ≡ true) × (is_some d ≡ true)
 four_there None b c d word e = absurd cc
 four_there (Some w) None c d word e = absurd cc
 four_there (Some w) (Some x) None d word e = absurd cc
@@ -370,7 +370,7 @@ entry_held image part e =
     let held = byte_held part image.entry both.0 in
     record { from = held.from; to = held.to; execute = both.1 }
 
-any_entry : (image : ImageParts) (parts : List SectionPart) → has_entry parts image.entry ≡ true → Any (HoldsEntry image) parts
+pub any_entry : (image : ImageParts) (parts : List SectionPart) → has_entry parts image.entry ≡ true → Any (HoldsEntry image) parts
 any_entry image [] e = absurd cc
 any_entry image (part ∷ parts) e =
     elim (or_cases (holds_byte part image.entry && part.section.rights.execute) (has_entry parts image.entry) e) [
@@ -403,14 +403,14 @@ parts_laid_out bytes headers sections relocations imports of are entry relocated
       imports = slots;
     }
 
-abbrev imported : List ℕ → Headers → List SectionPart → List ℕ → Result ImageParts PeRefusal
+abbrev pub imported : List ℕ → Headers → List SectionPart → List ℕ → Result ImageParts PeRefusal
 imported bytes headers sections relocations =
     require (can_be_placed headers) RelocsStripped >>= λ _. imports_in sections headers.image.imports.rva >>= λ imports. Ok (image_of bytes headers sections relocations imports)
 
-abbrev relocated : List ℕ → Headers → List SectionPart → Option SectionPart → Result ImageParts PeRefusal
+abbrev pub relocated : List ℕ → Headers → List SectionPart → Option SectionPart → Result ImageParts PeRefusal
 relocated bytes headers sections table = relocations_in sections headers.image.relocations table >>= λ relocations. imported bytes headers sections relocations
 
-abbrev entered : List ℕ → Headers → List SectionPart → Result ImageParts PeRefusal
+abbrev pub entered : List ℕ → Headers → List SectionPart → Result ImageParts PeRefusal
 entered bytes headers sections =
     require (has_entry sections headers.image.entry) BadEntry >>= λ _. require (is_placed sections headers.image.imports.rva) (BadDirectory 1) >>= λ _. relocation_section sections headers.image.relocations >>= λ table. relocated bytes headers sections table
 

@@ -1,6 +1,8 @@
 pub mod Again
 pub mod Contents
 pub mod Fronts
+pub mod Grammar
+pub mod HeaderFields
 pub mod Importing
 pub mod Judged
 pub mod Keeping
@@ -10,6 +12,7 @@ pub mod Loops
 pub mod Mapping
 pub mod Parts
 pub mod Relocating
+pub mod SectionHeaders
 pub mod Spelled
 pub mod Table
 pub mod Whole

@@ -1,5 +1,6 @@
 pub mod Contents
 pub mod File
+pub mod Grammar
 pub mod Headers
 pub mod Image
 pub mod Imports

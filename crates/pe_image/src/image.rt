@@ -1,7 +1,9 @@
 //! An image that was read from a PE32 file.
 
-ghost use Rattle.std.specs.Prelude.{◌≡◌, ◌≢◌, Ok, Err, IfOk, IfErr, map};
-ghost use Rattle.pe_image.specs.Image.{IsLaidOut, sections_of};
+ghost use Rattle.std.specs.Prelude.{◌≡◌, ◌≢◌, Ok, Err, IfOk, IfErr, MatchResult, map};
+ghost use Rattle.pe_image.specs.declared.refusal.PeRefusal.TheVariants.{OutOfMemory};
+ghost use Rattle.pe_image.specs.Grammar.{IsImage};
+ghost use Rattle.pe_image.specs.Image.{ImageParts, IsLaidOut, sections_of};
 ghost use Rattle.pe_image.specs.Reading.{reading, image_of};
 ghost use Rattle.pe_image.specs.Sections.{seen};
 
@@ -49,6 +51,10 @@ impl Image {
     pub fn read(alloc: Global, bytes: &[u8]) -> Result<Image, PeRefusal>
         ensures ok { IfOk result (λ image. reading bytes.now ≡ Ok image) }
         ensures refusal { IfErr result (λ e. e ≢ PeRefusal.OutOfMemory → reading bytes.now ≡ Err e) }
+        // What is read is the file's image.
+        ensures found { IfOk result (λ image. IsImage bytes.now image) }
+        // A file that has an image is read, unless memory runs out.
+        ensures only { (image : ImageParts) → IsImage bytes.now image → MatchResult result (λ i. i ≡ image) (λ e. e ≡ OutOfMemory) }
         ensures laid_out { IfOk result IsLaidOut }
     {
         let contents = read_contents(alloc, bytes)?;

@@ -21,7 +21,7 @@ pub use mapped::{
     mapping_keeps_rights, relocated_word_is_moved, slot_holds_its_address,
 };
 pub use meaning::{
-    imports_are_of_descriptors, names_are_as_spelled, no_more_descriptors,
+    images_are_as_spelled, imports_are_of_descriptors, names_are_as_spelled, no_more_descriptors,
     overlaps_share_an_address, relocations_are_of_blocks,
 };
 pub use refusal::PeRefusal;

@@ -3,10 +3,12 @@
 ghost use Rattle.std.specs.Prelude.{◌≡◌, ◌≤◌, ◌<◌, length, ◌+◌, ◌↔◌, ℕ, true, List, Some, Ok, All};
 ghost use Rattle.pe_image.specs.declared.headers.SectionHeader.{SectionHeader};
 ghost use Rattle.pe_image.specs.declared.headers.Directory.{Directory};
-ghost use Rattle.pe_image.specs.Image.{SectionPart, ImportParts};
+ghost use Rattle.pe_image.specs.Image.{SectionPart, ImportParts, ImageParts};
 ghost use Rattle.pe_image.specs.Sections.{meets, IsLow};
 ghost use Rattle.pe_image.specs.Relocations.{relocations_in};
 ghost use Rattle.pe_image.specs.Imports.{name_at, descriptors_from, most_descriptors, imports_in};
+ghost use Rattle.pe_image.specs.Reading.{reading};
+ghost use Rattle.pe_image.specs.Grammar.{IsImage};
 ghost use Rattle.pe_image.specs.Spellings.{IsName, IsShared, Block, AreBlocks, Relocate, AreDescriptors, joined};
 
 /// A name is read where it is spelled, and as it is spelled.
@@ -37,4 +39,11 @@ pub fn no_more_descriptors()
 pub fn imports_are_of_descriptors()
     ensures { (parts : List SectionPart) (rva : ℕ) (functions : List ImportParts) → 0 < rva
         → (imports_in parts rva ≡ Ok functions) ↔ ((lists : List (List ImportParts)) × AreDescriptors parts rva lists × (functions ≡ joined lists) × (length lists < most_descriptors) × (length functions ≤ 4096)) }
+{}
+
+/// The reading gives an image exactly where the file is that of this image, and a file is that of
+/// one image alone.
+pub fn images_are_as_spelled()
+    ensures read { (bytes : List ℕ) (image : ImageParts) → (reading bytes ≡ Ok image) ↔ IsImage bytes image }
+    ensures one { (bytes : List ℕ) (first second : ImageParts) → IsImage bytes first → IsImage bytes second → first ≡ second }
 {}

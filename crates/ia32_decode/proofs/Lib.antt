@@ -1,0 +1,6 @@
+pub mod EncodedParts
+pub mod Encoded
+pub mod Lengths
+pub mod Parts
+pub mod PrefixLaws
+pub mod Told

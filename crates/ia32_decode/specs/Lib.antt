@@ -1,0 +1,6 @@
+pub mod Operands
+pub mod Rows
+pub mod Opcodes
+pub mod Prefixes
+pub mod Decoding
+pub mod Encoding

@@ -1,8 +1,7 @@
-pub mod GuestMap
+pub mod Contexts
 pub mod OneRun
 pub mod PutWords
 pub mod Runs
 pub mod SomeRun
 pub mod StartSpace
 pub mod Turns
-pub mod TwoWords

@@ -1,21 +1,22 @@
 -- At each place of a run only one entry can stand, and none behind a whole run.
-use Rattle.std.proofs.Common.{◌≡◌, ◌≢◌, ℕ, ◌+◌, ◌<◌, ◌≤◌, List, [], ◌∷◌, ◌++◌, true, false, refl, sym, ap, ◌∙◌, subst, arith, inl, inr, ◌⊎◌}
-use Rattle.std.proofs.lemmas.Bool.{cases_lt}
+use Rattle.std.proofs.Common.{◌≡◌, ◌≢◌, ℕ, ◌+◌, ◌<◌, ◌≤◌, List, [], ◌∷◌, ◌++◌, Option, Some, true, false, refl, sym, ap, ◌∙◌, subst, arith, inl, inr}
+use Rattle.std.specs.Prelude.{slice_get, slice_set}
+use Rattle.std.proofs.lemmas.Bool.{cases_lt, cases_eq}
 use Rattle.std.proofs.lemmas.List.{append-nil}
 use Rattle.nd_base.specs.declared.numbers.Addr.{Addr}
 use Rattle.nd_base.specs.declared.numbers.CtxNo.{CtxNo}
 use Rattle.nd_base.specs.declared.numbers.Slot.TheVariants as slot
-use Rattle.nd_base.specs.declared.numbers.Status.{Status}
-use Rattle.nd_mem.specs.Space.{Space}
-use Rattle.ia32_step.specs.Machine.{Machine, Outcome, Trapped, Moved, Faulted, outcome}
+use Rattle.ia32_step.specs.Registers.{Registers}
+use Rattle.ia32_step.specs.Machine.{Machine, machine, Outcome, Trapped, Moved, Faulted, outcome}
 use Rattle.ia32_step.specs.declared.FaultKind.{FaultKind}
 use Rattle.driver_entry.specs.declared.entries.Entry.{Entry}
 use Rattle.driver_entry.specs.declared.entries.Entry.TheVariants.{Enter, Turn, Fault, Leave as Leaving}
-use Rattle.driver_entry.specs.declared.entries.Handler.TheVariants.{DriverEntry}
 use Rattle.driver_entry.specs.declared.session.Ending.{Ending}
 use Rattle.driver_entry.specs.declared.session.Ending.TheVariants.{Left, Faulting, Spent}
-use Rattle.driver_entry.specs.Run.{Inputs, State, Context, Unentered, Open, Ended, Run, RunFrom, now_from, start, after, charge, charged, Meets, IsTurn, FaultsBy, WhileOpen, IsWhole, turned, is_moved}
-use Rattle.driver_entry.proofs.Runs.{now_more, charged_from, turned_none}
+use Rattle.guest_map.specs.Regions.{contexts}
+use Rattle.driver_entry.specs.Run.{Inputs, State, Context, Unentered, Open, Ended, none_entered, context_of, gone_on, Run, RunFrom, now_from, start, after, charge, charged, Meets, IsTurn, FaultsBy, WhileOpen, IsWhole, AreFronts, first_context, turned, is_moved}
+use Rattle.driver_entry.proofs.Contexts.{opened, get_set_other, get_set_same, get_replicate}
+use Rattle.driver_entry.proofs.Runs.{next_meets, now_more, charged_from, turned_none}
 
 -- ---- two entries at one place
 
@@ -56,9 +57,6 @@ leaves_and_faults o eip kind address leaves faults = subst (λ (x : Outcome). Fa
 same_address : (a b : Addr) → a.0 ≡ b.0 → a ≡ b
 same_address a b e = let of : ℕ → Addr = λ n. record { 0 = n } in ap of e
 
-same_status : (a b : Status) → a.0 ≡ b.0 → a ≡ b
-same_status a b e = let of : ℕ → Status = λ n. record { 0 = n } in ap of e
-
 same_context : (a b : CtxNo) → a.0 ≡ 0 → b.0 ≡ 0 → a ≡ b
 same_context a b one other = let of : ℕ → CtxNo = λ n. record { 0 = n } in ap of (one ∙ sym other)
 
@@ -68,137 +66,206 @@ fault_is_one (Trapped slot.Leave) eip kind kind' address address' one other = ab
 fault_is_one (Trapped (slot.Import n)) eip kind kind' address address' one other = (one.0 ∙ sym other.0, same_address address address' (one.1 ∙ sym other.1))
 fault_is_one (Faulted k a) eip kind kind' address address' one other = (one.0 ∙ sym other.0, one.1 ∙ sym other.1)
 
--- an open context has one machine
-both : (memory : Space) (context : Context) (P Q : Machine → Type 0) (R : Type 0) → WhileOpen memory context P → WhileOpen memory context Q → ((m : Machine) → P m → Q m → R) → R
-both memory (Open registers) P Q R one other result = result (record { registers = registers; memory = memory }) one other
-both memory Unentered P Q R one other result = absurd one
-both memory Ended P Q R one other result = absurd one
+-- ---- contexts
 
-unentered_or_open : (memory : Space) (context : Context) (P : Machine → Type 0) → context ≡ Unentered → WhileOpen memory context P → ⊥
-unentered_or_open memory context P unentered opened = subst (λ (x : Context). WhileOpen memory x P) unentered opened
+-- no context but the first is open
+abbrev OnlyFirst : State → Type 0
+OnlyFirst s = (x : CtxNo) (registers : Registers) → context_of s x ≡ Some (Open registers) → x.0 ≡ 0
+
+only_first-start : (c : Inputs) → OnlyFirst (start c)
+unfolding none_entered
+only_first-start c x registers e = let none : Open registers ≡ Unentered = get_replicate contexts x.0 Unentered (Open registers) e in absurd (cc)
+
+-- where the first context is set, no other is opened
+only_first-set : (s : State) (xs : List Context) (x : CtxNo) (context : Context) → OnlyFirst s → x.0 ≡ 0 → xs ≡ slice_set s.contexts x.0 context
+    → (y : CtxNo) (registers : Registers) → slice_get xs y.0 ≡ Some (Open registers) → y.0 ≡ 0
+only_first-set s xs x context only first is y registers e =
+    elim (cases_eq y.0 x.0) [
+      | inl same ↦ same ∙ first
+      | inr other ↦ only y registers (sym (ap (λ (l : List Context). slice_get l y.0) is ∙ get_set_other s.contexts x.0 y.0 context other) ∙ e)
+    ]
+
+is_first : (s : State) (x : CtxNo) (P : Machine → Type 0) → OnlyFirst s → WhileOpen s x P → x.0 ≡ 0
+is_first s x P only h = let o = opened s.memory (context_of s x) P h in only x o.registers o.is
+
+contexts_gone_on : (s : State) (x : CtxNo) (count : ℕ) (context : Option Context) (registers : Registers) → context ≡ Some (Open registers)
+    → (gone_on s x count context).contexts ≡ slice_set s.contexts x.0 (Open (turned count (machine registers s.memory)).registers)
+contexts_gone_on s x count context registers is = ap (λ (k : Option Context). (gone_on s x count k).contexts) is
+
+-- which context an entry sets, to what
+record Sets (s after : State) : Type 0 where
+  context : Context
+  entered : context ≡ Unentered → ⊥
+  is : after.contexts ≡ slice_set s.contexts 0 context
+
+at_zero : (s : State) (xs : List Context) (x : CtxNo) (context : Context) → x.0 ≡ 0 → xs ≡ slice_set s.contexts x.0 context → xs ≡ slice_set s.contexts 0 context
+at_zero s xs x context first is = is ∙ ap (λ n. slice_set s.contexts n context) first
+
+sets : (c : Inputs) (s : State) (e : Entry) → OnlyFirst s → Meets c s e → Sets s (after c s e)
+sets c s (Enter adapter x handler words writes) only meets = record { context = _; entered = λ e. cc; is = at_zero s _ x _ meets.first refl }
+sets c s (Turn x count) only meets =
+    let o = opened s.memory (context_of s x) _ meets in
+    record {
+      context = Open (turned count (machine o.registers s.memory)).registers;
+      entered = λ e. cc;
+      is = at_zero s _ x _ (only x o.registers o.is) (contexts_gone_on s x count (context_of s x) o.registers o.is);
+    }
+sets c s (Leaving x eax) only meets = record { context = Ended; entered = λ e. cc; is = at_zero s _ x Ended (is_first s x _ only meets.leaves) refl }
+sets c s (Fault x kind address) only meets = record { context = Ended; entered = λ e. cc; is = at_zero s _ x Ended (is_first s x _ only meets.faults) refl }
+
+only_first-after : (c : Inputs) (s : State) (e : Entry) → OnlyFirst s → Meets c s e → OnlyFirst (after c s e)
+only_first-after c s e only meets = let set = sets c s e only meets in only_first-set s (after c s e).contexts first_context set.context only refl set.is
+
+-- two open contexts are one, with one machine
+both : (s : State) (x x' : CtxNo) (P Q : Machine → Type 0) (R : Type 0) → OnlyFirst s → WhileOpen s x P → WhileOpen s x' Q → ((m : Machine) → x ≡ x' → P m → Q m → R) → R
+both s x x' P Q R only one other result =
+    let o = opened s.memory (context_of s x) P one in
+    let o' = opened s.memory (context_of s x') Q other in
+    let same : x ≡ x' = same_context x x' (only x o.registers o.is) (only x' o'.registers o'.is) in
+    let open_one : Some (Open o.registers) ≡ Some (Open o'.registers) = sym o.is ∙ ap (context_of s) same ∙ o'.is in
+    let registers : o.registers ≡ o'.registers = cc in
+    result (machine o.registers s.memory) same o.holds (subst (λ (r : Registers). Q (machine r s.memory)) (sym registers) o'.holds)
+
+-- what is to be entered is not open
+unentered_or_open : (s : State) (x x' : CtxNo) (P : Machine → Type 0) → OnlyFirst s → x.0 ≡ 0 → context_of s x ≡ Some Unentered → WhileOpen s x' P → ⊥
+unentered_or_open s x x' P only first unentered h =
+    let o = opened s.memory (context_of s x') P h in
+    let same : x ≡ x' = same_context x x' first (only x' o.registers o.is) in
+    let open_one : Some Unentered ≡ Some (Open o.registers) = sym unentered ∙ ap (context_of s) same ∙ o.is in
+    cc
 
 -- in one state only one entry can stand
-meets_one : (c : Inputs) (s : State) (e e' : Entry) → Meets c s e → Meets c s e' → e ≡ e'
-meets_one c s (Enter context DriverEntry words) (Enter context' DriverEntry words') one other =
-    let number = same_context context context' one.number other.number in
+meets_one : (c : Inputs) (s : State) (e e' : Entry) → OnlyFirst s → Meets c s e → Meets c s e' → e ≡ e'
+meets_one c s (Enter adapter x handler words writes) (Enter adapter' x' handler' words' writes') only one other =
+    let alone : handler ≡ handler' = one.alone ∙ sym other.alone in
+    let unbound : adapter ≡ adapter' = one.unbound ∙ sym other.unbound in
+    let first = same_context x x' one.first other.first in
     let given : words ≡ words' = one.given ∙ sym other.given in
+    let beside : writes ≡ writes' = one.beside ∙ sym other.beside in
     cc
-meets_one c s (Enter context handler words) (Turn context' count) one other = absurd (unentered_or_open s.memory s.context _ one.unentered other.turn)
-meets_one c s (Enter context handler words) (Leaving context' status) one other = absurd (unentered_or_open s.memory s.context _ one.unentered other.leaves)
-meets_one c s (Enter context handler words) (Fault context' kind address) one other = absurd (unentered_or_open s.memory s.context _ one.unentered other.faults)
-meets_one c s (Turn context count) (Enter context' handler words) one other = absurd (unentered_or_open s.memory s.context _ other.unentered one.turn)
-meets_one c s (Turn context count) (Turn context' count') one other =
-    let number = same_context context context' one.number other.number in
-    let long : count ≡ count' = both s.memory s.context _ _ (count ≡ count') one.turn other.turn (λ m. turn_is_one c.budget s.charged count count' m) in
-    cc
-meets_one c s (Turn context count) (Leaving context' status) one other =
-    absurd (both s.memory s.context _ _ ⊥ one.turn other.leaves (λ m turn leaves. moves_and_leaves (outcome m) (turn_moves c.budget s.charged count m turn) leaves.0))
-meets_one c s (Turn context count) (Fault context' kind address) one other =
-    absurd (both s.memory s.context _ _ ⊥ one.turn other.faults (λ m turn faults. moves_and_faults (outcome m) m.registers.eip kind address (turn_moves c.budget s.charged count m turn) faults))
-meets_one c s (Leaving context status) (Enter context' handler words) one other = absurd (unentered_or_open s.memory s.context _ other.unentered one.leaves)
-meets_one c s (Leaving context status) (Turn context' count) one other =
-    absurd (both s.memory s.context _ _ ⊥ other.turn one.leaves (λ m turn leaves. moves_and_leaves (outcome m) (turn_moves c.budget s.charged count m turn) leaves.0))
-meets_one c s (Leaving context status) (Leaving context' status') one other =
-    let number = same_context context context' one.number other.number in
-    let same : status ≡ status' = both s.memory s.context _ _ (status ≡ status') one.leaves other.leaves (λ m first second. same_status status status' (first.1 ∙ sym second.1)) in
-    cc
-meets_one c s (Leaving context status) (Fault context' kind address) one other =
-    absurd (both s.memory s.context _ _ ⊥ one.leaves other.faults (λ m leaves faults. leaves_and_faults (outcome m) m.registers.eip kind address leaves.0 faults))
-meets_one c s (Fault context kind address) (Enter context' handler words) one other = absurd (unentered_or_open s.memory s.context _ other.unentered one.faults)
-meets_one c s (Fault context kind address) (Turn context' count) one other =
-    absurd (both s.memory s.context _ _ ⊥ other.turn one.faults (λ m turn faults. moves_and_faults (outcome m) m.registers.eip kind address (turn_moves c.budget s.charged count m turn) faults))
-meets_one c s (Fault context kind address) (Leaving context' status) one other =
-    absurd (both s.memory s.context _ _ ⊥ other.leaves one.faults (λ m leaves faults. leaves_and_faults (outcome m) m.registers.eip kind address leaves.0 faults))
-meets_one c s (Fault context kind address) (Fault context' kind' address') one other =
-    let number = same_context context context' one.number other.number in
-    let same : (kind ≡ kind') × (address ≡ address') =
-    both s.memory s.context _ _ ((kind ≡ kind') × (address ≡ address')) one.faults other.faults (λ m. fault_is_one (outcome m) m.registers.eip kind kind' address address') in
-    let same_kind : kind ≡ kind' = same.0 in
-    let same_place : address ≡ address' = same.1 in
-    cc
+meets_one c s (Enter adapter x handler words writes) (Turn x' count) only one other = absurd (unentered_or_open s x x' _ only one.first one.unentered other)
+meets_one c s (Enter adapter x handler words writes) (Leaving x' eax) only one other = absurd (unentered_or_open s x x' _ only one.first one.unentered other.leaves)
+meets_one c s (Enter adapter x handler words writes) (Fault x' kind address) only one other = absurd (unentered_or_open s x x' _ only one.first one.unentered other.faults)
+meets_one c s (Turn x count) (Enter adapter x' handler words writes) only one other = absurd (unentered_or_open s x' x _ only other.first other.unentered one)
+meets_one c s (Turn x count) (Turn x' count') only one other =
+    both s x x' _ _ (Turn x count ≡ Turn x' count') only one other (λ m same turn turn'. let number : count ≡ count' = turn_is_one c.budget s.charged count count' m turn turn' in cc)
+meets_one c s (Turn x count) (Leaving x' eax) only one other =
+    absurd (both s x x' _ _ ⊥ only one other.leaves (λ m same turn leaves. moves_and_leaves (outcome m) (turn_moves c.budget s.charged count m turn) leaves.0))
+meets_one c s (Turn x count) (Fault x' kind address) only one other =
+    absurd (both s x x' _ _ ⊥ only one other.faults (λ m same turn faults. moves_and_faults (outcome m) m.registers.eip kind address (turn_moves c.budget s.charged count m turn) faults))
+meets_one c s (Leaving x eax) (Enter adapter x' handler words writes) only one other = absurd (unentered_or_open s x' x _ only other.first other.unentered one.leaves)
+meets_one c s (Leaving x eax) (Turn x' count) only one other =
+    absurd (both s x' x _ _ ⊥ only other one.leaves (λ m same turn leaves. moves_and_leaves (outcome m) (turn_moves c.budget s.charged count m turn) leaves.0))
+meets_one c s (Leaving x eax) (Leaving x' eax') only one other =
+    both s x x' _ _ (Leaving x eax ≡ Leaving x' eax') only one.leaves other.leaves (λ m same leaves leaves'. let status : eax ≡ eax' = leaves.1 ∙ sym leaves'.1 in cc)
+meets_one c s (Leaving x eax) (Fault x' kind address) only one other =
+    absurd (both s x x' _ _ ⊥ only one.leaves other.faults (λ m same leaves faults. leaves_and_faults (outcome m) m.registers.eip kind address leaves.0 faults))
+meets_one c s (Fault x kind address) (Enter adapter x' handler words writes) only one other = absurd (unentered_or_open s x' x _ only other.first other.unentered one.faults)
+meets_one c s (Fault x kind address) (Turn x' count) only one other =
+    absurd (both s x' x _ _ ⊥ only other one.faults (λ m same turn faults. moves_and_faults (outcome m) m.registers.eip kind address (turn_moves c.budget s.charged count m turn) faults))
+meets_one c s (Fault x kind address) (Leaving x' eax) only one other =
+    absurd (both s x' x _ _ ⊥ only other.leaves one.faults (λ m same leaves faults. leaves_and_faults (outcome m) m.registers.eip kind address leaves.0 faults))
+meets_one c s (Fault x kind address) (Fault x' kind' address') only one other =
+    both s x x' _ _ (Fault x kind address ≡ Fault x' kind' address') only one.faults other.faults (λ m same faults faults'.
+    let alike = fault_is_one (outcome m) m.registers.eip kind kind' address address' faults faults' in
+    let same_kind : kind ≡ kind' = alike.0 in
+    let same_place : address ≡ address' = alike.1 in
+    cc)
 
 -- ---- two runs
-
-abbrev pub AreFronts : List Entry → List Entry → Type 0
-AreFronts log log' = (more : List Entry) × ((log' ≡ log ++ more) ⊎ (log ≡ log' ++ more))
 
 behind : (e : Entry) (log log' : List Entry) → AreFronts log log' → AreFronts (e ∷ log) (e ∷ log')
 behind e log log' (more, inl is) = (more, inl (ap (λ (l : List Entry). e ∷ l) is))
 behind e log log' (more, inr is) = (more, inr (ap (λ (l : List Entry). e ∷ l) is))
 
 -- of two runs from one state, one is a front of the other
-pub fronts : (c : Inputs) (s : State) (log log' : List Entry) → RunFrom c s log → RunFrom c s log' → AreFronts log log'
+fronts_from : (c : Inputs) (s : State) (log log' : List Entry) → OnlyFirst s → RunFrom c s log → RunFrom c s log' → AreFronts log log'
 unfolding RunFrom
-fronts c s [] log' run run' = (log', inl refl)
-fronts c s (e ∷ log) [] run run' = (e ∷ log, inr refl)
-fronts c s (e ∷ log) (e' ∷ log') run run' =
-    let same : e ≡ e' = meets_one c s e e' run.0 run'.0 in
+fronts_from c s [] log' only run run' = (log', inl refl)
+fronts_from c s (e ∷ log) [] only run run' = (e ∷ log, inr refl)
+fronts_from c s (e ∷ log) (e' ∷ log') only run run' =
+    let same : e ≡ e' = meets_one c s e e' only run.0 run'.0 in
     subst (λ (x : Entry). AreFronts (e ∷ log) (x ∷ log')) same
-    (behind e log log' (fronts c (after c s e) log log' run.1 (subst (λ (x : Entry). RunFrom c (after c s x) log') (sym same) run'.1)))
+    (behind e log log' (fronts_from c (after c s e) log log' (only_first-after c s e only run.0) run.1 (subst (λ (x : Entry). RunFrom c (after c s x) log') (sym same) run'.1)))
+
+pub fronts : (c : Inputs) (log log' : List Entry) → Run c log → Run c log' → AreFronts log log'
+fronts c log log' run run' = fronts_from c (start c) log log' (only_first-start c) run run'
 
 -- ---- behind a whole run
 
--- what stands behind a run meets what it needs in the state that the run leaves
-next_meets : (c : Inputs) (s : State) (log : List Entry) (e : Entry) (more : List Entry) → RunFrom c s (log ++ e ∷ more) → Meets c (now_from c s log) e
+only_first-now : (c : Inputs) (s : State) (log : List Entry) → OnlyFirst s → RunFrom c s log → OnlyFirst (now_from c s log)
 unfolding RunFrom now_from
-next_meets c s [] e more run = run.0
-next_meets c s (first ∷ log) e more run = next_meets c (after c s first) log e more run.1
+only_first-now c s [] only run = only
+only_first-now c s (e ∷ log) only run = only_first-now c (after c s e) log (only_first-after c s e only run.0) run.1
 
-entered_after : (c : Inputs) (s : State) (e : Entry) → Meets c s e → (after c s e).context ≡ Unentered → ⊥
-entered_after c s (Enter context handler words) meets unentered = cc
-entered_after c s (Turn context count) meets unentered = of_turn s.memory s.context count _ meets.turn unentered
-  where
-    of_turn : (memory : Space) (context : Context) (count : ℕ) (P : Machine → Type 0) → WhileOpen memory context P → (after c (record { memory = memory; context = context; charged = s.charged }) (Turn (record { 0 = 0 }) count)).context ≡ Unentered → ⊥
-    of_turn memory (Open registers) count P opened e = cc
-    of_turn memory Unentered count P opened e = opened
-    of_turn memory Ended count P opened e = opened
-entered_after c s (Leaving context status) meets unentered = cc
-entered_after c s (Fault context kind address) meets unentered = cc
+abbrev IsEntered : State → Type 0
+IsEntered s = context_of s first_context ≡ Some Unentered → ⊥
+
+entered_after : (c : Inputs) (s : State) (e : Entry) → OnlyFirst s → Meets c s e → IsEntered (after c s e)
+entered_after c s e only meets unentered =
+    let set = sets c s e only meets in
+    set.entered (sym (get_set_same s.contexts 0 set.context Unentered (sym (ap (λ (l : List Context). slice_get l 0) set.is) ∙ unentered)))
 
 -- once DriverEntry is entered, no later state has it unentered
-stays_entered : (c : Inputs) (s : State) (log : List Entry) → (s.context ≡ Unentered → ⊥) → RunFrom c s log → (now_from c s log).context ≡ Unentered → ⊥
+stays_entered : (c : Inputs) (s : State) (log : List Entry) → OnlyFirst s → IsEntered s → RunFrom c s log → IsEntered (now_from c s log)
 unfolding RunFrom now_from
-stays_entered c s [] entered run = entered
-stays_entered c s (e ∷ log) entered run = stays_entered c (after c s e) log (entered_after c s e run.0) run.1
+stays_entered c s [] only entered run = entered
+stays_entered c s (e ∷ log) only entered run = stays_entered c (after c s e) log (only_first-after c s e only run.0) (entered_after c s e only run.0) run.1
 
-run_enters : (c : Inputs) (s : State) (log : List Entry) → log ≢ [] → RunFrom c s log → (now_from c s log).context ≡ Unentered → ⊥
+run_enters : (c : Inputs) (s : State) (log : List Entry) → OnlyFirst s → log ≢ [] → RunFrom c s log → IsEntered (now_from c s log)
 unfolding RunFrom now_from
-run_enters c s [] some run unentered = some refl
-run_enters c s (e ∷ log) some run unentered = stays_entered c (after c s e) log (entered_after c s e run.0) run.1 unentered
+run_enters c s [] only some run unentered = some refl
+run_enters c s (e ∷ log) only some run unentered = stays_entered c (after c s e) log (only_first-after c s e only run.0) (entered_after c s e only run.0) run.1 unentered
 
-ended_or_open : (memory : Space) (context : Context) (P : Machine → Type 0) → context ≡ Ended → WhileOpen memory context P → ⊥
-ended_or_open memory context P ended opened = subst (λ (x : Context). WhileOpen memory x P) ended opened
+-- an entry of the first context, in this state
+unentered_here : (s : State) (x : CtxNo) → x.0 ≡ 0 → context_of s x ≡ Some Unentered → context_of s first_context ≡ Some Unentered
+unentered_here s x first e = ap (slice_get s.contexts) (sym first) ∙ e
 
-none_behind_end : (c : Inputs) (s : State) (e : Entry) → s.context ≡ Ended → Meets c s e → ⊥
-none_behind_end c s (Enter context handler words) ended meets = let unentered : s.context ≡ Unentered = meets.unentered in cc
-none_behind_end c s (Turn context count) ended meets = ended_or_open s.memory s.context _ ended meets.turn
-none_behind_end c s (Leaving context status) ended meets = ended_or_open s.memory s.context _ ended meets.leaves
-none_behind_end c s (Fault context kind address) ended meets = ended_or_open s.memory s.context _ ended meets.faults
+-- the first context's handler is over
+abbrev IsOver : State → Type 0
+IsOver s = (context : Context) → context_of s first_context ≡ Some context → context ≡ Ended
 
-none_when_spent : (c : Inputs) (s : State) (e : Entry) → s.charged ≡ c.budget → (s.context ≡ Unentered → ⊥) → Meets c s e → ⊥
-none_when_spent c s (Enter context handler words) spent entered meets = entered meets.unentered
-none_when_spent c s (Turn context count) spent entered meets =
-    both s.memory s.context _ _ ⊥ meets.turn meets.turn (λ m turn _. let some : 0 < count = turn.some in let within : s.charged + count ≤ c.budget = turn.within in omega arith)
-none_when_spent c s (Leaving context status) spent entered meets = omega (arith, meets.unspent)
-none_when_spent c s (Fault context kind address) spent entered meets = omega (arith, meets.unspent)
+over_or_open : (s : State) (x : CtxNo) (P : Machine → Type 0) → OnlyFirst s → IsOver s → WhileOpen s x P → ⊥
+over_or_open s x P only over h =
+    let o = opened s.memory (context_of s x) P h in
+    let first : x.0 ≡ 0 = only x o.registers o.is in
+    let ended : Open o.registers ≡ Ended = over (Open o.registers) (ap (slice_get s.contexts) (sym first) ∙ o.is) in
+    cc
 
-ended_by : (c : Inputs) (log front : List Entry) (e : Entry) → log ≡ front ++ e ∷ [] → ((s : State) → (after c s e).context ≡ Ended) → (now_from c (start c) log).context ≡ Ended
-ended_by c log front e is ends =
-    ap (λ (l : List Entry). (now_from c (start c) l).context) is
-    ∙ ap (λ (s : State). s.context) (now_more c (start c) front e)
-    ∙ ends (now_from c (start c) front)
+none_behind_end : (c : Inputs) (s : State) (e : Entry) → OnlyFirst s → IsOver s → Meets c s e → ⊥
+none_behind_end c s (Enter adapter x handler words writes) only over meets = let ended : Unentered ≡ Ended = over Unentered (unentered_here s x meets.first meets.unentered) in cc
+none_behind_end c s (Turn x count) only over meets = over_or_open s x _ only over meets
+none_behind_end c s (Leaving x eax) only over meets = over_or_open s x _ only over meets.leaves
+none_behind_end c s (Fault x kind address) only over meets = over_or_open s x _ only over meets.faults
+
+none_when_spent : (c : Inputs) (s : State) (e : Entry) → s.charged ≡ c.budget → IsEntered s → Meets c s e → ⊥
+none_when_spent c s (Enter adapter x handler words writes) spent entered meets = entered (unentered_here s x meets.first meets.unentered)
+none_when_spent c s (Turn x count) spent entered meets =
+    let turn = (opened s.memory (context_of s x) _ meets).holds in
+    let some : 0 < count = turn.some in
+    let within : s.charged + count ≤ c.budget = turn.within in
+    omega arith
+none_when_spent c s (Leaving x eax) spent entered meets = omega (arith, meets.unspent)
+none_when_spent c s (Fault x kind address) spent entered meets = omega (arith, meets.unspent)
+
+-- a log whose last entry ends the first context
+ended_by : (c : Inputs) (log front : List Entry) (e : Entry) → log ≡ front ++ e ∷ [] → ((s : State) → (after c s e).contexts ≡ slice_set s.contexts 0 Ended) → IsOver (now_from c (start c) log)
+ended_by c log front e is ends context found =
+    let last : (now_from c (start c) log).contexts ≡ slice_set (now_from c (start c) front).contexts 0 Ended =
+    ap (λ (l : List Entry). (now_from c (start c) l).contexts) is ∙ ap (λ (s : State). s.contexts) (now_more c (start c) front e) ∙ ends (now_from c (start c) front) in
+    get_set_same (now_from c (start c) front).contexts 0 Ended context (sym (ap (λ (l : List Context). slice_get l 0) last) ∙ found)
 
 -- nothing stands behind a whole run
 none_behind : (c : Inputs) (log : List Entry) (ending : Ending) → IsWhole c log ending → (e : Entry) → Meets c (now_from c (start c) log) e → ⊥
 none_behind c log (Left status) whole e meets =
     let at = whole.ends in
-    none_behind_end c _ e (ended_by c log at.0 (Leaving at.1 status) at.2 (λ s. refl)) meets
+    none_behind_end c _ e (only_first-now c (start c) log (only_first-start c) whole.run) (ended_by c log at.0 (Leaving first_context status.0) at.1 (λ s. refl)) meets
 none_behind c log Faulting whole e meets =
     let at = whole.ends in
-    none_behind_end c _ e (ended_by c log at.0 (Fault at.1 at.2 at.3) at.4 (λ s. refl)) meets
+    none_behind_end c _ e (only_first-now c (start c) log (only_first-start c) whole.run) (ended_by c log at.0 (Fault first_context at.1 at.2) at.3 (λ s. refl)) meets
 none_behind c log Spent whole e meets =
     let sum : (now_from c (start c) log).charged ≡ c.budget = charged_from c (start c) log ∙ omega (arith, whole.ends) in
-    none_when_spent c (now_from c (start c) log) e sum (run_enters c (start c) log whole.entered whole.run) meets
+    none_when_spent c (now_from c (start c) log) e sum (run_enters c (start c) log (only_first-start c) whole.entered whole.run) meets
 
 no_more : (c : Inputs) (log log' more : List Entry) (ending : Ending) → IsWhole c log ending → Run c log' → log' ≡ log ++ more → log ≡ log'
 no_more c log log' [] ending whole run is = sym (is ∙ append-nil log)
@@ -206,7 +273,7 @@ no_more c log log' (e ∷ more) ending whole run is =
     absurd (none_behind c log ending whole e (next_meets c (start c) log e more (subst (λ (l : List Entry). Run c l) is run)))
 
 pub same_log : (c : Inputs) (log log' : List Entry) (ending ending' : Ending) → IsWhole c log ending → IsWhole c log' ending' → log ≡ log'
-same_log c log log' ending ending' whole whole' = of_fronts (fronts c (start c) log log' whole.run whole'.run)
+same_log c log log' ending ending' whole whole' = of_fronts (fronts c log log' whole.run whole'.run)
   where
     of_fronts : AreFronts log log' → log ≡ log'
     of_fronts (more, inl is) = no_more c log log' more ending whole whole'.run is
@@ -215,10 +282,9 @@ same_log c log log' ending ending' whole whole' = of_fronts (fronts c (start c) 
 -- ---- how a whole run ends
 
 abbrev pub ended_with : Entry → Ending
-ended_with (Enter context handler words) = Spent
-ended_with (Turn context count) = Spent
-ended_with (Leaving context status) = Left status
-ended_with (Fault context kind address) = Faulting
+ended_with (Leaving x eax) = Left (record { 0 = eax })
+ended_with (Fault x kind address) = Faulting
+ended_with _ = Spent
 
 -- by a log's last entry
 abbrev pub ending_of : List Entry → Ending
@@ -232,10 +298,10 @@ ending_of_last (first ∷ []) e = refl
 ending_of_last (first ∷ next ∷ front) e = ending_of_last (next ∷ front) e
 
 last_spends : (c : Inputs) (s : State) (e : Entry) → Meets c s e → s.charged + charge e ≡ c.budget → ended_with e ≡ Spent
-last_spends c s (Enter context handler words) meets spent = refl
-last_spends c s (Turn context count) meets spent = refl
-last_spends c s (Leaving context status) meets spent = absurd (omega (arith, meets.unspent))
-last_spends c s (Fault context kind address) meets spent = absurd (omega (arith, meets.unspent))
+last_spends c s (Enter adapter x handler words writes) meets spent = refl
+last_spends c s (Turn x count) meets spent = refl
+last_spends c s (Leaving x eax) meets spent = absurd (omega (arith, meets.unspent))
+last_spends c s (Fault x kind address) meets spent = absurd (omega (arith, meets.unspent))
 
 run_spends : (c : Inputs) (s : State) (log : List Entry) → RunFrom c s log → s.charged + charged log ≡ c.budget → ending_of log ≡ Spent
 unfolding RunFrom
@@ -244,8 +310,8 @@ run_spends c s (e ∷ []) run spent = last_spends c s e run.0 (omega arith)
 run_spends c s (e ∷ next ∷ log) run spent = run_spends c (after c s e) (next ∷ log) run.1 (omega arith)
 
 whole_ends : (c : Inputs) (log : List Entry) (ending : Ending) → IsWhole c log ending → ending_of log ≡ ending
-whole_ends c log (Left status) whole = let at = whole.ends in ap ending_of at.2 ∙ ending_of_last at.0 (Leaving at.1 status)
-whole_ends c log Faulting whole = let at = whole.ends in ap ending_of at.4 ∙ ending_of_last at.0 (Fault at.1 at.2 at.3)
+whole_ends c log (Left status) whole = let at = whole.ends in ap ending_of at.1 ∙ ending_of_last at.0 (Leaving first_context status.0)
+whole_ends c log Faulting whole = let at = whole.ends in ap ending_of at.3 ∙ ending_of_last at.0 (Fault first_context at.1 at.2)
 whole_ends c log Spent whole = run_spends c (start c) log whole.run (omega (arith, whole.ends))
 
 pub same_ending : (c : Inputs) (log log' : List Entry) (ending ending' : Ending) → IsWhole c log ending → IsWhole c log' ending' → ending ≡ ending'

@@ -6,7 +6,7 @@ use Rattle.std.proofs.lemmas.List.{take_more, length-take}
 use Rattle.std.specs.FinMap as finite
 use Rattle.nd_mem.specs.declared.MemFault.{MemFault}
 use Rattle.nd_mem.specs.Space.{answer_of, Cells, Space, Any, first_fault, fault_at, put_from}
-use Rattle.nd_mem.proofs.Laws.{fault_none, fault_none_at, fault_put, put_append}
+use Rattle.nd_mem.specs.Laws.{FaultLaws, WriteLaws}
 
 abbrev pub word_bytes : List ℕ → List ℕ
 word_bytes words = flat_map (to_le_bytes w32) words
@@ -20,25 +20,25 @@ words_more [] word = refl
 words_more (first ∷ words) word = ap (λ bytes. to_le_bytes w32 first ++ bytes) (words_more words word)
 
 -- four bytes of a run that has no fault
-pub free_word : (cells : Cells) (at n i : ℕ) → first_fault Any cells at (4 * n) ≡ None → i < n → first_fault Any cells (at + 4 * i) 4 ≡ None
-free_word cells at n i free less = fault_none Any cells (at + 4 * i) 4 (λ k small.
+free_word : FaultLaws → (cells : Cells) (at n i : ℕ) → first_fault Any cells at (4 * n) ≡ None → i < n → first_fault Any cells (at + 4 * i) 4 ≡ None
+free_word faults cells at n i free less = faults.none Any cells (at + 4 * i) 4 (λ k small.
     let e : at + (4 * i + k) ≡ at + 4 * i + k = omega arith in
-    subst (λ (a : ℕ). fault_at Any cells a ≡ None) e (fault_none_at Any cells at (4 * n) (4 * i + k) free (omega arith)))
+    subst (λ (a : ℕ). fault_at Any cells a ≡ None) e (faults.none_at Any cells at (4 * n) (4 * i + k) free (omega arith)))
 
-pub free_after : (s t : Space) (at n i next : ℕ) (bytes : List ℕ) → t ≡ put_from s at bytes → next ≡ at + 4 * i → first_fault Any (finite.get s) at (4 * n) ≡ None → i < n → first_fault Any (finite.get t) next 4 ≡ None
-free_after s t at n i next bytes made is free less =
+pub free_after : FaultLaws → (s t : Space) (at n i next : ℕ) (bytes : List ℕ) → t ≡ put_from s at bytes → next ≡ at + 4 * i → first_fault Any (finite.get s) at (4 * n) ≡ None → i < n → first_fault Any (finite.get t) next 4 ≡ None
+free_after faults s t at n i next bytes made is free less =
     ap (λ (x : Space). first_fault Any (finite.get x) next 4) made ∙ ap (λ a. first_fault Any (finite.get (put_from s at bytes)) a 4) is
-    ∙ fault_put Any s at bytes (at + 4 * i) 4 ∙ free_word (finite.get s) at n i free less
+    ∙ faults.written Any s at bytes (at + 4 * i) 4 ∙ free_word faults (finite.get s) at n i free less
 
-pub word_put : (s t u : Space) (at i next : ℕ) (words : List ℕ) → i < length words → t ≡ put_from s at (word_bytes (take i words)) → next ≡ at + 4 * i
+pub word_put : WriteLaws → (s t u : Space) (at i next : ℕ) (words : List ℕ) → i < length words → t ≡ put_from s at (word_bytes (take i words)) → next ≡ at + 4 * i
     → u ≡ put_from t next (to_le_bytes w32 (get_or words i 0)) → u ≡ put_from s at (word_bytes (take (i + 1) words))
-word_put s t u at i next words less made is put =
+word_put writes s t u at i next words less made is put =
     let front = word_bytes (take i words) in
     let word = to_le_bytes w32 (get_or words i 0) in
     let few : length (take i words) ≡ i = length-take i words ∙ omega arith in
     let place : next ≡ at + length front = omega (arith, words_length (take i words)) in
     put ∙ ap (λ (x : Space). put_from x next word) made ∙ ap (λ a. put_from (put_from s at front) a word) place
-    ∙ sym (put_append s at front word) ∙ sym (ap (put_from s at) (ap word_bytes (take_more words i 0 less) ∙ words_more (take i words) (get_or words i 0)))
+    ∙ sym (writes.append s at front word) ∙ sym (ap (put_from s at) (ap word_bytes (take_more words i 0 less) ∙ words_more (take i words) (get_or words i 0)))
 
 pub none_put : (s : Space) (at : ℕ) → s ≡ put_from s at []
 unfolding put_from

@@ -1,7 +1,7 @@
 -- A run goes on by one entry, and each front of a run is a run.
 use Rattle.std.proofs.Common.{◌≡◌, ℕ, ◌+◌, List, [], ◌∷◌, ◌++◌, refl, sym, ap, ◌∙◌, subst, arith, zero, suc, true, false}
 use Rattle.driver_entry.specs.declared.entries.Entry.{Entry}
-use Rattle.driver_entry.specs.Run.{Inputs, State, RunFrom, now_from, Reaches, Meets, after, start, charged, charge, turned, is_moved}
+use Rattle.driver_entry.specs.Run.{Inputs, State, RunFrom, now_from, Reaches, GoesOn, Meets, after, start, charged, charge, turned, is_moved}
 use Rattle.ia32_step.specs.Machine.{Machine, moved, Outcome, Trapped, Moved, Faulted, answer_to}
 use Rattle.ia32_step.specs.declared.Stepped.{Stepped}
 use Rattle.ia32_step.specs.declared.Stepped.TheVariants.{Went}
@@ -33,6 +33,12 @@ unfolding RunFrom
 run_front c s [] more run = tt
 run_front c s (first ∷ log) more run = (run.0, run_front c (after c s first) log more run.1)
 
+-- what stands behind a run meets what it needs in the state that the run leaves
+pub next_meets : (c : Inputs) (s : State) (log : List Entry) (e : Entry) (more : List Entry) → RunFrom c s (log ++ e ∷ more) → Meets c (now_from c s log) e
+unfolding RunFrom now_from
+next_meets c s [] e more run = run.0
+next_meets c s (first ∷ log) e more run = next_meets c (after c s first) log e more run.1
+
 pub charged_from : (c : Inputs) (s : State) (log : List Entry) → (now_from c s log).charged ≡ s.charged + charged log
 unfolding now_from
 charged_from c s [] = omega arith
@@ -44,6 +50,13 @@ charged_from c s (first ∷ log) =
 -- what was charged is the sum of the turns
 pub charged-now : (c : Inputs) (log : List Entry) (s : State) → Reaches c log s → s.charged ≡ charged log
 charged-now c log s reached = sym (ap (λ (x : State). x.charged) reached.state) ∙ charged_from c (start c) log ∙ omega arith
+
+pub goes_on : GoesOn
+goes_on = record {
+  more = λ c log e. (λ run. (run_front c (start c) log (e ∷ []) run, next_meets c (start c) log e [] run), λ both. run_more c (start c) log e both.0 both.1);
+  next = λ c log e. now_more c (start c) log e;
+  charges = λ c log. charged_from c (start c) log ∙ omega arith;
+}
 
 pub turned_none : (m : Machine) → turned zero m ≡ m
 unfolding turned

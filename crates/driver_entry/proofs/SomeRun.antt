@@ -1,21 +1,19 @@
 -- An image has a whole run with each budget.
-use Rattle.std.proofs.Common.{◌≡◌, ℕ, zero, suc, ◌+◌, ◌-◌, ◌<◌, ◌≤◌, min, Bool, List, [], ◌∷◌, ◌++◌, true, false, refl, sym, ap, ◌∙◌, subst, arith, inl, inr, slice_index, below_more}
+use Rattle.std.proofs.Common.{◌≡◌, ℕ, zero, suc, ◌+◌, ◌-◌, ◌<◌, ◌≤◌, min, Bool, List, [], ◌∷◌, ◌++◌, true, false, refl, sym, ap, ◌∙◌, subst, arith, inl, inr, below_more}
 use Rattle.std.proofs.lemmas.Bool.{cases_eq}
 use Rattle.nd_base.specs.declared.numbers.Addr.{Addr}
 use Rattle.nd_base.specs.declared.numbers.Slot.TheVariants as slot
 use Rattle.nd_base.specs.declared.numbers.Status.{Status}
-use Rattle.nd_mem.specs.Space.{put_from}
+use Rattle.ia32_step.specs.Meaning.{general_of}
 use Rattle.ia32_step.specs.Machine.{Machine, Outcome, Trapped, Moved, Faulted, outcome}
 use Rattle.ia32_step.specs.declared.FaultKind.TheVariants.{Unmapped}
 use Rattle.driver_entry.specs.declared.entries.Entry.{Entry}
 use Rattle.driver_entry.specs.declared.entries.Entry.TheVariants.{Turn}
 use Rattle.driver_entry.specs.declared.session.Ending.{Ending}
 use Rattle.driver_entry.specs.declared.session.Ending.TheVariants.{Left, Faulting, Spent}
-use Rattle.driver_entry.specs.declared.guest.TheConstants.{DRIVER_ENTRY_WORDS}
-use Rattle.driver_entry.specs.Guest.{start_space, stack_pointer, stack_bytes, entered_registers}
-use Rattle.driver_entry.specs.Run.{Inputs, Reaches, IsTurn, IsWhole, FaultsBy, machine, turned, is_moved}
+use Rattle.driver_entry.specs.Run.{Inputs, Reaches, IsTurn, IsWhole, FaultsBy, first_context, turned, is_moved}
 use Rattle.driver_entry.proofs.Runs.{charged-now, turned_none}
-use Rattle.driver_entry.proofs.Turns.{open_state, turn_logged, fault_logged, leave_logged, enter_logged, entering, not_empty}
+use Rattle.driver_entry.proofs.Turns.{open_state, turn_logged, fault_logged, leave_logged, enter_logged, entering, first_machine, not_empty}
 
 -- how many instructions have results, one after the other, of so many at most
 record Longest (most : ℕ) (m : Machine) : Type 0 where
@@ -44,7 +42,7 @@ HasRun c = (log : List Entry) × (ending : Ending) × IsWhole c log ending
 stopped : (c : Inputs) (log : List Entry) (m : Machine) (n : ℕ) (o : Outcome) → Reaches c log (open_state m n) → n < c.budget → outcome m ≡ o → is_moved o ≡ false → HasRun c
 stopped c log m n (Moved next) reached unspent is stays = absurd (cc)
 stopped c log m n (Trapped slot.Leave) reached unspent is stays =
-    let status : Status = record { 0 = slice_index m.registers.general 0 } in
+    let status : Status = record { 0 = general_of m.registers 0 } in
     (_, Left status, (leave_logged c log _ m n status reached unspent is refl refl).0)
 stopped c log m n (Trapped (slot.Import i)) reached unspent is stays =
     let address : Addr = record { 0 = m.registers.eip } in
@@ -75,7 +73,7 @@ goes_on (suc left) c log m n reached unspent enough =
           stopped c log m n (outcome m) reached unspent refl (ap (λ (x : Machine). is_moved (outcome x)) (sym (ap (λ (k : ℕ). turned k m) none ∙ turned_none m)) ∙ stays)
       | inr some ↦
           let more : 0 < turn.count = omega arith in
-          let e = Turn (record { 0 = 0 }) turn.count in
+          let e = Turn first_context turn.count in
           let next = turn_logged c log m (turned turn.count m) n turn.count reached (longest_turn c.budget n m turn unspent more) refl in
           elim (cases_eq (n + turn.count) c.budget) [
             | inl all ↦ spent c log e (turned turn.count m) (n + turn.count) next all
@@ -85,10 +83,8 @@ goes_on (suc left) c log m n reached unspent enough =
 
 pub has_run : (c : Inputs) → HasRun c
 has_run c =
-    let registers = entered_registers c.image DRIVER_ENTRY_WORDS in
-    let memory = put_from (start_space c.image) (stack_pointer DRIVER_ENTRY_WORDS) (stack_bytes DRIVER_ENTRY_WORDS) in
-    let entered = enter_logged c (entering ∷ []) registers memory refl refl refl in
+    let entered = enter_logged c (entering ∷ []) (first_machine c) refl refl in
     elim (cases_eq c.budget 0) [
-      | inl none ↦ spent c [] entering (machine registers memory) 0 entered (sym none)
-      | inr some ↦ goes_on c.budget c (entering ∷ []) (machine registers memory) 0 entered (omega arith) (omega arith)
+      | inl none ↦ spent c [] entering (first_machine c) 0 entered (sym none)
+      | inr some ↦ goes_on c.budget c (entering ∷ []) (first_machine c) 0 entered (omega arith) (omega arith)
     ]

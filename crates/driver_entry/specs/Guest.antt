@@ -1,81 +1,59 @@
--- What a driver finds in memory when its DriverEntry is entered: the mapped image and the regions beside it. (The project's own memory
--- map: docs/MEMORY.md. How a handler finds its arguments: the stdcall convention of Windows DDK miniport handlers.)
-use Rattle.std.specs.Prelude.{ℕ, Bool, ◌+◌, ◌-◌, ◌*◌, List, [], ◌∷◌, ◌++◌, length, true, false, None, Some, if◌then◌else◌, ◌&&◌, nat_le, nat_lt}
+-- What a driver finds in memory when a handler of it is entered: the mapped image and the regions beside it, and its stack. (The project's own
+-- memory map: docs/MEMORY.md. How a handler finds its arguments: the stdcall convention of Windows DDK miniport handlers.)
+use Rattle.std.specs.Prelude.{ℕ, ◌+◌, ◌-◌, ◌*◌, List, [], ◌∷◌, ◌++◌, length, replicate}
 use Rattle.std.specs.List.{flat_map}
+use Rattle.std.specs.Option.{option_or}
 use Rattle.std.specs.Int.{to_le_bytes, w32}
-use Rattle.nd_mem.specs.Cell.{Cell}
-use Rattle.nd_mem.specs.Space.{Space, Cells, either_of}
-use Rattle.nd_mem.specs.Regions.{mapped}
-use Rattle.pe_image.specs.Image.{ImageParts}
-use Rattle.pe_image.specs.Image.{image_cells}
-use Rattle.ia32_step.specs.Registers.{Registers}
-use Rattle.driver_entry.specs.declared.guest.Region.{Region}
-use Rattle.ia32_step.specs.Slots.{address_of}
+use Rattle.nd_base.specs.declared.numbers.CtxNo.{CtxNo}
 use Rattle.nd_base.specs.declared.numbers.Slot.TheVariants.{Leave}
-
--- where the image is mapped
-abbrev pub load_base : ℕ
-load_base = 0x80100000
-
--- the stack of a context, and the answer places of its handler
-abbrev pub context_regions : ℕ → List Region
-context_regions context = record { at = 0x82000000 + context * 0x10000; len = 0x4000 } ∷ record { at = 0x82008000 + context * 0x10000; len = 0x2000 } ∷ []
-
--- The regions beside the image: the guest pool; those of the contexts 0 to 15; the send slots; the request buffers; the adapter blocks.
-abbrev pub guest_regions : List Region
-guest_regions = record { at = 0x81000000; len = 0x800000 }
-    ∷ flat_map context_regions (0 ∷ 1 ∷ 2 ∷ 3 ∷ 4 ∷ 5 ∷ 6 ∷ 7 ∷ 8 ∷ 9 ∷ 10 ∷ 11 ∷ 12 ∷ 13 ∷ 14 ∷ 15 ∷ [])
-    ++ record { at = 0x83000000; len = 0x400000 } ∷ record { at = 0x84000000; len = 0x8000 } ∷ record { at = 0x85000000; len = 0x4000 } ∷ []
-
--- DriverEntry's argument words: the driver object and the registry path
-abbrev pub driver_entry_words : List ℕ
-driver_entry_words = 0xE0000000 ∷ 0xE0000008 ∷ []
-
--- the first address behind the stack of context 0
-abbrev pub stack_end : ℕ
-stack_end = 0x82004000
-
--- a zero byte that may be read and written
-abbrev pub blank : Cell
-blank = record { byte = 0; rights = record { read = true; write = true; execute = false } }
-
-abbrev pub lies_in : Region → ℕ → Bool
-lies_in region a = nat_le region.at a && nat_lt a (region.at + region.len)
-
--- what the regions have at an address
-abbrev pub region_cell : List Region → Cells
-region_cell [] a = None
-region_cell (region ∷ regions) a = if lies_in region a then Some blank else region_cell regions a
-
--- regions that rise from a floor up to a limit, each behind the last one
-unfoldable pub rising : ℕ → ℕ → List Region → Bool
-rising floor limit [] = true
-rising floor limit (region ∷ regions) = nat_le floor region.at && (nat_le (region.at + region.len) limit && rising (region.at + region.len) limit regions)
+use Rattle.nd_mem.specs.Mapped.{mapped}
+use Rattle.nd_mem.specs.Space.{Space, Cells, put_from}
+use Rattle.guest_map.specs.Blank.{blank_cells}
+use Rattle.guest_map.specs.Handles.{driver_object, registry_path}
+use Rattle.guest_map.specs.Regions.{image_base, stack, end_of}
+use Rattle.guest_map.specs.Slots.{slot_address}
+use Rattle.pe_image.specs.Image.{ImageParts, image_cells}
+use Rattle.ia32_step.specs.Meaning.{ESP, with_general}
+use Rattle.ia32_step.specs.Registers.{Registers, at_reset}
+use Rattle.driver_entry.specs.declared.entries.Handler.{Handler}
+use Rattle.driver_entry.specs.declared.entries.Handler.TheVariants.{DriverEntry}
+use Rattle.driver_entry.specs.declared.write.Write.{Write}
 
 -- what stands at an address before the driver runs; no import is served yet, so none has an address
 abbrev pub start_cell : ImageParts → Cells
-start_cell image a = either_of (image_cells image load_base [] a) (region_cell guest_regions a)
+start_cell image a = option_or (image_cells image image_base [] a) (blank_cells a)
 
 abbrev pub start_space : ImageParts → Space
 start_space image = mapped (start_cell image)
 
--- what a handler finds on its stack: the address that it returns to, and its argument words
-abbrev pub stack_bytes : List ℕ → List ℕ
-stack_bytes words = flat_map (to_le_bytes w32) (address_of Leave ∷ words)
+-- DriverEntry's argument words
+abbrev pub driver_entry_words : List ℕ
+driver_entry_words = driver_object ∷ registry_path ∷ []
 
-abbrev pub stack_pointer : List ℕ → ℕ
-stack_pointer words = stack_end - 4 * (1 + length words)
+-- the address of a handler
+abbrev pub handler_address : ImageParts → Handler → ℕ
+handler_address image DriverEntry = image_base + image.entry
 
--- the registers that DriverEntry begins with: ESP and EIP, and zeros
-abbrev pub entered_registers : ImageParts → List ℕ → Registers
-entered_registers image words = record {
-  general = 0 ∷ 0 ∷ 0 ∷ 0 ∷ stack_pointer words ∷ 0 ∷ 0 ∷ 0 ∷ [];
-  eip = load_base + image.entry;
-  carry = false;
-  parity = false;
-  auxiliary = false;
-  zero = false;
-  sign = false;
-  direction = false;
-  overflow = false;
-}
+-- what a handler finds at ESP: the address that it returns to, and its argument words
+abbrev pub frame_bytes : List ℕ → List ℕ
+frame_bytes words = flat_map (to_le_bytes w32) (slot_address Leave ∷ words)
+
+abbrev pub stack_pointer : CtxNo → List ℕ → ℕ
+stack_pointer context words = end_of (stack context.0) - 4 * (1 + length words)
+
+-- a context's whole stack as a handler finds it: in front of that, zeros
+unfoldable pub stack_bytes : CtxNo → List ℕ → List ℕ
+stack_bytes context words = replicate ((stack context.0).length - 4 * (1 + length words)) 0 ++ frame_bytes words
+
+-- bytes that are written where each write says, one write after the other
+abbrev pub with_writes : Space → List Write → Space
+with_writes memory [] = memory
+with_writes memory (write ∷ writes) = with_writes (put_from memory write.at.0 write.bytes) writes
+
+-- memory when a handler is entered: its stack, and what is written beside it
+abbrev pub entered_memory : Space → CtxNo → List ℕ → List Write → Space
+entered_memory memory context words writes = with_writes (put_from memory (stack context.0).first.0 (stack_bytes context words)) writes
+
+-- the registers that a handler begins with: ESP and EIP, and zeros
+abbrev pub entered_registers : ℕ → ℕ → Registers
+entered_registers esp eip = record (with_general ESP esp at_reset) { eip = eip }

@@ -1,90 +1,97 @@
 -- Which logs are runs. A run is a finished list of entries: each of them meets what its kind needs in the state that the earlier ones
--- leave. (Turns, budget and log: the project's own, docs/LOG.md. What an instruction does: Intel SDM volume 2, in ia32_step.)
-use Rattle.std.specs.Prelude.{◌≡◌, ◌≢◌, ℕ, zero, suc, ◌+◌, ◌<◌, ◌≤◌, Bool, true, false, List, [], ◌∷◌, ◌++◌, slice_index}
+-- leave. (Contexts, turns, budget and log: the project's own, docs/LOG.md. What an instruction does: Intel SDM volume 2, in ia32_step.)
+use Rattle.std.specs.Prelude.{◌≡◌, ◌≢◌, ◌↔◌, ℕ, zero, suc, ◌+◌, ◌<◌, ◌≤◌, ◌⊎◌, Bool, true, false, List, [], ◌∷◌, ◌++◌, replicate, slice_get, slice_set, filter, Option, None, Some}
+use Rattle.nd_base.specs.declared.numbers.AdapterNo.{AdapterNo}
 use Rattle.nd_base.specs.declared.numbers.Addr.{Addr}
 use Rattle.nd_base.specs.declared.numbers.CtxNo.{CtxNo}
 use Rattle.nd_base.specs.declared.numbers.Slot.TheVariants.{Import, Leave}
-use Rattle.nd_base.specs.declared.numbers.Status.{Status}
-use Rattle.nd_mem.specs.Space.{Space, put_from}
+use Rattle.nd_mem.specs.Space.{Space}
+use Rattle.guest_map.specs.Regions.{contexts}
 use Rattle.pe_image.specs.Image.{ImageParts}
 use Rattle.ia32_step.specs.Registers.{Registers}
-use Rattle.ia32_step.specs.Machine.{Machine, Outcome, Trapped, Moved, Faulted, outcome, moved}
+use Rattle.ia32_step.specs.Meaning.{general_of}
+use Rattle.ia32_step.specs.Machine.{Machine, machine, Outcome, Trapped, Moved, Faulted, outcome, moved}
 use Rattle.ia32_step.specs.declared.FaultKind.{FaultKind}
 use Rattle.ia32_step.specs.declared.FaultKind.TheVariants.{Unmapped}
+use Rattle.driver_entry.specs.declared.write.Write.{Write}
 use Rattle.driver_entry.specs.declared.entries.Entry.{Entry}
 use Rattle.driver_entry.specs.declared.entries.Entry.TheVariants.{Enter, Turn, Leave as Leaving, Fault}
+use Rattle.driver_entry.specs.declared.entries.Handler.{Handler}
+use Rattle.driver_entry.specs.declared.entries.Handler.TheVariants.{DriverEntry}
 use Rattle.driver_entry.specs.declared.session.Ending.{Ending}
 use Rattle.driver_entry.specs.declared.session.Ending.TheVariants.{Left, Faulting, Spent}
-use Rattle.driver_entry.specs.Guest.{driver_entry_words, start_space, stack_bytes, stack_pointer, entered_registers}
+use Rattle.driver_entry.specs.Guest.{driver_entry_words, handler_address, start_space, stack_pointer, entered_memory, entered_registers}
 
 -- what a run is given: the image, and how many instructions it may take
 pub record Inputs : Type 0 where
   pub image : ImageParts
   pub budget : ℕ
 
--- context 0: before DriverEntry is entered, while it runs, and after its end
+-- ---- the state now: what the entries so far leave
+
+-- a context: before a handler is entered in it, while one runs with these registers, and after its end
 pub data Context : Type 0 where
   Unentered : Context
   Open : Registers → Context
   Ended : Context
 
--- the state now: what the entries so far leave
+-- the contexts stand by number
 pub record State : Type 0 where
   pub memory : Space
-  pub context : Context
+  pub contexts : List Context
   pub charged : ℕ
 
-abbrev pub machine : Registers → Space → Machine
-machine registers memory = record { registers = registers; memory = memory }
+unfoldable pub none_entered : List Context
+none_entered = replicate contexts Unentered
+
+abbrev pub start : Inputs → State
+start c = record { memory = start_space c.image; contexts = none_entered; charged = 0 }
+
+abbrev pub context_of : State → CtxNo → Option Context
+context_of s x = slice_get s.contexts x.0
+
+abbrev pub with_context : State → CtxNo → Context → State
+with_context s x context = record s { contexts = slice_set s.contexts x.0 context }
 
 -- the machine after n steps
 unfoldable pub turned : ℕ → Machine → Machine
 turned zero m = m
 turned (suc n) m = moved (turned n m)
 
-abbrev pub is_moved : Outcome → Bool
-is_moved (Moved m) = true
-is_moved (Trapped slot) = false
-is_moved (Faulted kind address) = false
+-- ---- what an entry does
 
-abbrev pub start : Inputs → State
-start c = record { memory = start_space c.image; context = Unentered; charged = 0 }
-
--- what an entry costs: an instruction costs one
+-- what it costs: an instruction costs one
 abbrev pub charge : Entry → ℕ
-charge (Enter context handler words) = 0
-charge (Turn context count) = count
-charge (Leaving context status) = 0
-charge (Fault context kind address) = 0
+charge (Turn x count) = count
+charge _ = 0
 
 abbrev pub charged : List Entry → ℕ
 charged [] = 0
 charged (e ∷ log) = charge e + charged log
 
-abbrev pub memory_after_turn : Space → Context → ℕ → Space
-memory_after_turn memory (Open registers) count = (turned count (machine registers memory)).memory
-memory_after_turn memory Unentered count = memory
-memory_after_turn memory Ended count = memory
+abbrev pub entered : Inputs → State → CtxNo → Handler → List ℕ → List Write → State
+entered c s x handler words writes =
+    record (with_context s x (Open (entered_registers (stack_pointer x words) (handler_address c.image handler)))) { memory = entered_memory s.memory x words writes }
 
-abbrev pub context_after_turn : Space → Context → ℕ → Context
-context_after_turn memory (Open registers) count = Open (turned count (machine registers memory)).registers
-context_after_turn memory Unentered count = Unentered
-context_after_turn memory Ended count = Ended
+abbrev pub gone_on : State → CtxNo → ℕ → Option Context → State
+gone_on s x count (Some (Open registers)) = let m = turned count (machine registers s.memory) in record (with_context s x (Open m.registers)) { memory = m.memory }
+gone_on s x count _ = s
 
-abbrev pub memory_after : State → Entry → Space
-memory_after s (Enter context handler words) = put_from s.memory (stack_pointer words) (stack_bytes words)
-memory_after s (Turn context count) = memory_after_turn s.memory s.context count
-memory_after s (Leaving context status) = s.memory
-memory_after s (Fault context kind address) = s.memory
-
-abbrev pub context_after : Inputs → State → Entry → Context
-context_after c s (Enter context handler words) = Open (entered_registers c.image words)
-context_after c s (Turn context count) = context_after_turn s.memory s.context count
-context_after c s (Leaving context status) = Ended
-context_after c s (Fault context kind address) = Ended
+abbrev pub effect : Inputs → State → Entry → State
+effect c s (Enter adapter x handler words writes) = entered c s x handler words writes
+effect c s (Turn x count) = gone_on s x count (context_of s x)
+effect c s (Leaving x eax) = with_context s x Ended
+effect c s (Fault x kind address) = with_context s x Ended
 
 abbrev pub after : Inputs → State → Entry → State
-after c s e = record { memory = memory_after s e; context = context_after c s e; charged = s.charged + charge e }
+after c s e = record (effect c s e) { charged = s.charged + charge e }
+
+-- ---- what an entry needs in the state that stands before it
+
+abbrev pub is_moved : Outcome → Bool
+is_moved (Moved m) = true
+is_moved (Trapped slot) = false
+is_moved (Faulted kind address) = false
 
 -- The turn's instructions have results, one after the other. It ends at 64 of them, where the budget is spent, or before what has no
 -- result (a slot's address among them), and at none of these earlier.
@@ -102,38 +109,42 @@ FaultsBy (Trapped (Import n)) eip kind' address' = (kind' ≡ Unmapped) × (addr
 FaultsBy (Trapped Leave) eip kind' address' = ⊥
 FaultsBy (Moved m) eip kind' address' = ⊥
 
+abbrev pub OpenIn : Space → Option Context → (Machine → Type 0) → Type 0
+OpenIn memory (Some (Open registers)) P = P (machine registers memory)
+OpenIn memory _ P = ⊥
+
 -- the context is open, and its machine has P
-abbrev pub WhileOpen : Space → Context → (Machine → Type 0) → Type 0
-WhileOpen memory (Open registers) P = P (machine registers memory)
-WhileOpen memory Unentered P = ⊥
-WhileOpen memory Ended P = ⊥
+abbrev pub WhileOpen : State → CtxNo → (Machine → Type 0) → Type 0
+WhileOpen s x P = OpenIn s.memory (context_of s x) P
 
-pub record MeetsEnter (s : State) (context : CtxNo) (words : List ℕ) : Type 0 where
-  pub number : context.0 ≡ 0
-  pub unentered : s.context ≡ Unentered
+-- DriverEntry alone may be entered so far: for no adapter, in context 0, with its words, and nothing is written beside its stack.
+pub record MeetsEnter (s : State) (adapter : Option AdapterNo) (x : CtxNo) (handler : Handler) (words : List ℕ) (writes : List Write) : Type 0 where
+  pub alone : handler ≡ DriverEntry
+  pub unbound : adapter ≡ None
+  pub first : x.0 ≡ 0
+  pub unentered : context_of s x ≡ Some Unentered
   pub given : words ≡ driver_entry_words
+  pub beside : writes ≡ []
 
-pub record MeetsTurn (c : Inputs) (s : State) (context : CtxNo) (count : ℕ) : Type 0 where
-  pub number : context.0 ≡ 0
-  pub turn : WhileOpen s.memory s.context (IsTurn c.budget s.charged count)
+abbrev pub MeetsTurn : Inputs → State → CtxNo → ℕ → Type 0
+MeetsTurn c s x count = WhileOpen s x (IsTurn c.budget s.charged count)
 
--- EIP is the address that a handler returns to, and EAX the status
-pub record MeetsLeave (c : Inputs) (s : State) (context : CtxNo) (status : Status) : Type 0 where
-  pub number : context.0 ≡ 0
+-- EIP is the address that a handler returns to
+pub record MeetsLeave (c : Inputs) (s : State) (x : CtxNo) (eax : ℕ) : Type 0 where
   pub unspent : s.charged < c.budget
-  pub leaves : WhileOpen s.memory s.context (λ m. (outcome m ≡ Trapped Leave) × (status.0 ≡ slice_index m.registers.general 0))
+  pub leaves : WhileOpen s x (λ m. (outcome m ≡ Trapped Leave) × (eax ≡ general_of m.registers 0))
 
-pub record MeetsFault (c : Inputs) (s : State) (context : CtxNo) (kind : FaultKind) (address : Addr) : Type 0 where
-  pub number : context.0 ≡ 0
+pub record MeetsFault (c : Inputs) (s : State) (x : CtxNo) (kind : FaultKind) (address : Addr) : Type 0 where
   pub unspent : s.charged < c.budget
-  pub faults : WhileOpen s.memory s.context (λ m. FaultsBy (outcome m) m.registers.eip kind address)
+  pub faults : WhileOpen s x (λ m. FaultsBy (outcome m) m.registers.eip kind address)
 
--- what an entry needs in the state that stands before it
 abbrev pub Meets : Inputs → State → Entry → Type 0
-Meets c s (Enter context handler words) = MeetsEnter s context words
-Meets c s (Turn context count) = MeetsTurn c s context count
-Meets c s (Leaving context status) = MeetsLeave c s context status
-Meets c s (Fault context kind address) = MeetsFault c s context kind address
+Meets c s (Enter adapter x handler words writes) = MeetsEnter s adapter x handler words writes
+Meets c s (Turn x count) = MeetsTurn c s x count
+Meets c s (Leaving x eax) = MeetsLeave c s x eax
+Meets c s (Fault x kind address) = MeetsFault c s x kind address
+
+-- ---- runs
 
 unfoldable pub RunFrom : Inputs → State → List Entry → Type 0
 RunFrom c s [] = Unit {0}
@@ -156,10 +167,36 @@ pub record Reaches (c : Inputs) (log : List Entry) (s : State) : Type 0 where
   pub run : Run c log
   pub state : now c log ≡ s
 
+-- how a run goes on
+pub record GoesOn : Type 0 where
+  -- a log with one more entry is a run exactly where the log is one, and the entry meets what it needs in the state that the log leaves
+  pub more : (c : Inputs) (log : List Entry) (e : Entry) → Run c (log ++ e ∷ []) ↔ (Run c log × Meets c (now c log) e)
+  -- and leaves what the entry does to that state
+  pub next : (c : Inputs) (log : List Entry) (e : Entry) → now c (log ++ e ∷ []) ≡ after c (now c log) e
+  -- what was charged is the sum of what the entries cost
+  pub charges : (c : Inputs) (log : List Entry) → (now c log).charged ≡ charged log
+
+-- the context of an entry
+abbrev pub context_in : Entry → CtxNo
+context_in (Enter adapter x handler words writes) = x
+context_in (Turn x count) = x
+context_in (Leaving x eax) = x
+context_in (Fault x kind address) = x
+
+-- an entry leaves each context but its own as it is
+abbrev pub ChangesItsOwn : Type 0
+ChangesItsOwn = (c : Inputs) (s : State) (e : Entry) (y : CtxNo) → y.0 ≢ (context_in e).0 → context_of (after c s e) y ≡ context_of s y
+
+-- ---- whole runs
+
+-- the context of DriverEntry
+abbrev pub first_context : CtxNo
+first_context = record { 0 = 0 }
+
 -- How DriverEntry ended: with a leave of this status or with a fault as the log's last entry, or with the budget spent.
 abbrev pub EndsBy : Inputs → List Entry → Ending → Type 0
-EndsBy c log (Left status) = (front : List Entry) × (context : CtxNo) × (log ≡ front ++ Leaving context status ∷ [])
-EndsBy c log Faulting = (front : List Entry) × (context : CtxNo) × (kind : FaultKind) × (address : Addr) × (log ≡ front ++ Fault context kind address ∷ [])
+EndsBy c log (Left status) = (front : List Entry) × (log ≡ front ++ Leaving first_context status.0 ∷ [])
+EndsBy c log Faulting = (front : List Entry) × (kind : FaultKind) × (address : Addr) × (log ≡ front ++ Fault first_context kind address ∷ [])
 EndsBy c log Spent = charged log ≡ c.budget
 
 -- a whole run of DriverEntry: it was entered, and has ended
@@ -167,3 +204,16 @@ pub record IsWhole (c : Inputs) (log : List Entry) (ending : Ending) : Type 0 wh
   pub run : Run c log
   pub entered : log ≢ []
   pub ends : EndsBy c log ending
+
+-- ---- choices
+
+-- whether an entry makes a choice that the definitions of a run leave free: none of these kinds does
+abbrev pub is_choice : Entry → Bool
+is_choice _ = false
+
+abbrev pub choices : List Entry → List Entry
+choices log = filter is_choice log
+
+-- one of two lists is a front of the other
+abbrev pub AreFronts : List Entry → List Entry → Type 0
+AreFronts log log' = (more : List Entry) × ((log' ≡ log ++ more) ⊎ (log ≡ log' ++ more))

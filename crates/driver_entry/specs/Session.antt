@@ -1,17 +1,21 @@
 -- What the program keeps of a run of DriverEntry, as a state of the run's log.
-use Rattle.std.specs.Prelude.{◌≡◌, ◌<◌, ◌≤◌, ◌⊎◌, List, [], ◌∷◌, ◌++◌}
-use Rattle.ia32_step.specs.Machine.{Machine}
+use Rattle.std.specs.Prelude.{◌≡◌, ◌<◌, ◌≤◌, ◌⊎◌, List, [], ◌∷◌, ◌++◌, slice_set}
+use Rattle.ia32_step.specs.Machine.{Machine, machine}
 use Rattle.driver_entry.specs.declared.entries.Entry.{Entry}
 use Rattle.driver_entry.specs.declared.session.Ending.{Ending}
 use Rattle.driver_entry.specs.declared.session.Session.{Session}
-use Rattle.driver_entry.specs.Run.{Inputs, State, Open, Run, Reaches, IsWhole, machine, charged}
+use Rattle.driver_entry.specs.Run.{Inputs, Context, State, Open, none_entered, Run, Reaches, IsWhole, charged}
 
 abbrev pub machine_of : Session → Machine
 machine_of s = machine s.regs s.memory
 
+-- context 0 is as given, and no other was entered
+abbrev pub only_first : Context → List Context
+only_first context = slice_set none_entered 0 context
+
 -- DriverEntry's context is open, with the registers and the memory that are kept
 abbrev pub state_of : Session → State
-state_of s = record { memory = s.memory; context = Open s.regs; charged = s.charged }
+state_of s = record { memory = s.memory; contexts = only_first (Open s.regs); charged = s.charged }
 
 -- the log is a run so far, which leaves what is kept
 pub record IsOpen (c : Inputs) (s : Session) : Type 0 where
@@ -29,12 +33,13 @@ pub record IsRunning (c : Inputs) (s : Session) : Type 0 where
 abbrev pub AddsEntries : Session → Session → Type 0
 AddsEntries before after = (more : List Entry) × (after.log.items ≡ before.log.items ++ more)
 
--- Memory was wanted: the log is a run still, and holds what it held.
+-- Memory was wanted: the log is a run still and holds what it held, and what is kept as charged is the sum of its entries.
 pub record HasBrokenOff (c : Inputs) (before after : Session) : Type 0 where
   pub run : Run c after.log.items
   pub added : AddsEntries before after
+  pub sum : after.charged ≡ charged after.log.items
 
--- The log is a whole run, and what is kept as charged is the sum of its turns. Registers and memory are those that stood before the log's last
+-- The log is a whole run, and what is kept as charged is the sum of its entries. Registers and memory are those that stood before the log's last
 -- entry where that is a leave or a fault, and else those that the log leaves.
 pub record HasEnded (c : Inputs) (s : Session) (ending : Ending) : Type 0 where
   pub whole : IsWhole c s.log.items ending

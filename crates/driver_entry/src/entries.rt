@@ -1,10 +1,16 @@
 //! The entries of a log and their text.
 
-ghost use Rattle.std.specs.Prelude.{◌≡◌, ℕ, ◌++◌, OnOk, OnErr, IfOk, length, codes, string_bytes};
-ghost use Rattle.driver_entry.specs.Entries.{handler_name, kind_name, words_text, line_of, text_of, enter_line, turn_line, leave_line, fault_line};
+ghost use Rattle.std.specs.Prelude.{◌≡◌, ℕ, ◌++◌, OnOk, IfOk, codes, string_bytes};
+ghost use Rattle.std.specs.List.{flat_map};
+ghost use Rattle.driver_entry.specs.Entries.{handler_name, kind_name, more_text, words_text, bytes_text, write_text, writes_text, adapter_text, enter_line, line_of, text_of};
+ghost use Rattle.nd_base.specs.Text.{hex_word, hex_byte};
 
+use crate::word_list::Words;
+use crate::write::Write;
+use crate::write_list::Writes;
 use ia32_step::FaultKind;
-use nd_base::{Addr, CtxNo, OutOfMemory, Status};
+use nd_base::laws::hex_digits_are_padded;
+use nd_base::{AdapterNo, Addr, CtxNo};
 use std::alloc::{AllocError, Global};
 
 /// The entry point of the driver that a context runs.
@@ -14,23 +20,26 @@ pub enum Handler {
 }
 
 /// What a run's log says, one line each.
-#[derive(Clone, Copy, Debug, PartialEq, Eq)]
+#[derive(Drop)]
 pub enum Entry {
-    /// A handler is entered, with its argument words.
+    /// A handler is entered: for which adapter, in which context, with which argument words, and
+    /// what that writes beside its stack.
     Enter {
+        adapter: Option<AdapterNo>,
         context: CtxNo,
         handler: Handler,
-        words: [u32; 2],
+        words: Words,
+        writes: Writes,
     },
     /// Instructions of a context in a row, and how many they are: 1 to 64.
     Turn {
         context: CtxNo,
-        count: u8,
+        count: u64,
     },
-    /// A handler returns, with EAX as its status.
+    /// A handler returns, with this EAX.
     Leave {
         context: CtxNo,
-        status: Status,
+        eax: u32,
     },
     /// The next instruction of a context has no result.
     Fault {
@@ -61,60 +70,157 @@ fn kind_name(kind: FaultKind) -> &'static str
     }
 }
 
-#[tactic(auto, using(nd_base::proofs::Hex::padded_word, crate::proofs::TwoWords::two_words))]
-fn words_text(alloc: Global, words: &[u32; 2]) -> Result<String, AllocError>
-    ensures { IfOk result (λ text. string_bytes text ≡ words_text words.now) }
+fn push_adapter(text: &mut String, adapter: Option<AdapterNo>) -> Result<(), AllocError>
+    ensures { OnOk result (string_bytes text.new ≡ string_bytes text.old ++ adapter_text adapter) }
 {
-    let first = words[0];
-    let second = words[1];
-    format!(in alloc; "{first:08x},{second:08x}")
+    match adapter {
+        None => text.push_str("-"),
+        Some(adapter) => {
+            let number = adapter.0;
+            write!(text, "{number}")
+        }
+    }
 }
 
-fn enter_line(alloc: Global, context: u8, name: &str, words: &str) -> Result<String, AllocError>
-    ensures { IfOk result (λ line. string_bytes line ≡ enter_line context name.now words.now) }
+fn push_more_words(text: &mut String, words: &[u32]) -> Result<(), AllocError>
+    ensures { OnOk result (string_bytes text.new ≡ string_bytes text.old ++ more_text hex_word words.now) }
 {
-    format!(in alloc; "enter - {context} {name} {words} -\n")
+    hex_digits_are_padded();
+    for word in words {
+        let word = *word;
+        write!(text, ",{word:08x}")?;
+    }
+    Ok(())
 }
 
-fn turn_line(alloc: Global, context: u8, count: u8) -> Result<String, AllocError>
-    ensures { IfOk result (λ line. string_bytes line ≡ turn_line context count) }
+fn push_words(text: &mut String, words: &[u32]) -> Result<(), AllocError>
+    ensures { OnOk result (string_bytes text.new ≡ string_bytes text.old ++ words_text words.now) }
 {
-    format!(in alloc; "turn {context} {count}\n")
+    hex_digits_are_padded();
+    match words.split_first() {
+        None => text.push_str("-"),
+        Some((first, more)) => {
+            let first = *first;
+            write!(text, "{first:08x}")?;
+            push_more_words(text, more)
+        }
+    }
 }
 
-#[tactic(auto, using(nd_base::proofs::Hex::padded_word))]
-fn leave_line(alloc: Global, context: u8, status: u32) -> Result<String, AllocError>
-    ensures { IfOk result (λ line. string_bytes line ≡ leave_line context status) }
+fn push_more_bytes(text: &mut String, bytes: &[u8]) -> Result<(), AllocError>
+    ensures { OnOk result (string_bytes text.new ≡ string_bytes text.old ++ flat_map hex_byte bytes.now) }
 {
-    format!(in alloc; "leave {context} {status:08x}\n")
+    hex_digits_are_padded();
+    for byte in bytes {
+        let byte = *byte;
+        write!(text, "{byte:02x}")?;
+    }
+    Ok(())
 }
 
-#[tactic(auto, using(nd_base::proofs::Hex::padded_word))]
-fn fault_line(alloc: Global, context: u8, name: &str, address: u32) -> Result<String, AllocError>
-    ensures { IfOk result (λ line. string_bytes line ≡ fault_line context name.now address) }
+fn push_bytes(text: &mut String, bytes: &[u8]) -> Result<(), AllocError>
+    ensures { OnOk result (string_bytes text.new ≡ string_bytes text.old ++ bytes_text bytes.now) }
 {
-    format!(in alloc; "fault {context} {name} {address:08x}\n")
+    hex_digits_are_padded();
+    match bytes.split_first() {
+        None => text.push_str("-"),
+        Some((first, more)) => {
+            let first = *first;
+            write!(text, "{first:02x}")?;
+            push_more_bytes(text, more)
+        }
+    }
 }
 
-fn line_of(alloc: Global, entry: &Entry) -> Result<String, AllocError>
-    ensures { IfOk result (λ line. string_bytes line ≡ line_of entry.now) }
+fn push_write(text: &mut String, write: &Write) -> Result<(), AllocError>
+    ensures { OnOk result (string_bytes text.new ≡ string_bytes text.old ++ write_text write.now) }
 {
+    hex_digits_are_padded();
+    let at = write.at.0;
+    write!(text, "{at:08x}:")?;
+    push_bytes(text, write.bytes.as_slice())
+}
+
+fn push_more_writes(text: &mut String, writes: &[Write]) -> Result<(), AllocError>
+    ensures { OnOk result (string_bytes text.new ≡ string_bytes text.old ++ more_text write_text writes.now) }
+{
+    for write in writes {
+        text.push_str(",")?;
+        push_write(text, write)?;
+    }
+    Ok(())
+}
+
+fn push_writes(text: &mut String, writes: &[Write]) -> Result<(), AllocError>
+    ensures { OnOk result (string_bytes text.new ≡ string_bytes text.old ++ writes_text writes.now) }
+{
+    match writes.split_first() {
+        None => text.push_str("-"),
+        Some((first, more)) => {
+            push_write(text, first)?;
+            push_more_writes(text, more)
+        }
+    }
+}
+
+fn push_enter(
+    text: &mut String,
+    adapter: Option<AdapterNo>,
+    context: u8,
+    name: &str,
+    words: &[u32],
+    writes: &[Write],
+) -> Result<(), AllocError>
+    ensures { OnOk result (string_bytes text.new ≡ string_bytes text.old ++ enter_line adapter context name.now words.now writes.now) }
+{
+    text.push_str("enter ")?;
+    push_adapter(text, adapter)?;
+    write!(text, " {context} {name} ")?;
+    push_words(text, words)?;
+    text.push_str(" ")?;
+    push_writes(text, writes)?;
+    text.push_str("\n")?;
+    Ok(())
+}
+
+/// Puts an entry's line behind a text.
+fn push_line(text: &mut String, entry: &Entry) -> Result<(), AllocError>
+    ensures { OnOk result (string_bytes text.new ≡ string_bytes text.old ++ line_of entry.now) }
+{
+    hex_digits_are_padded();
     match entry {
         Entry::Enter {
+            adapter,
             context,
             handler,
             words,
-        } => {
-            let words = words_text(alloc, words)?;
-            enter_line(alloc, context.0, handler_name(*handler), &words)
+            writes,
+        } => push_enter(
+            text,
+            *adapter,
+            context.0,
+            handler_name(*handler),
+            words.as_slice(),
+            writes.as_slice(),
+        ),
+        Entry::Turn { context, count } => {
+            let context = context.0;
+            write!(text, "turn {context} {count}\n")
         }
-        Entry::Turn { context, count } => turn_line(alloc, context.0, *count),
-        Entry::Leave { context, status } => leave_line(alloc, context.0, status.0),
+        Entry::Leave { context, eax } => {
+            let context = context.0;
+            write!(text, "leave {context} {eax:08x}\n")
+        }
         Entry::Fault {
             context,
             kind,
             address,
-        } => fault_line(alloc, context.0, kind_name(*kind), address.0),
+        } => {
+            let context = context.0;
+            let name = kind_name(*kind);
+            let address = address.0;
+            write!(text, "fault {context} {name} {address:08x}\n")
+        }
     }
 }
 
@@ -124,8 +230,7 @@ pub fn text_of(alloc: Global, log: &[Entry]) -> Result<String, AllocError>
 {
     let mut text = String::new(alloc);
     for entry in log {
-        let line = line_of(alloc, entry)?;
-        text.push_str(&line)?;
+        push_line(&mut text, entry)?;
     }
     Ok(text)
 }

@@ -1,15 +1,17 @@
 //! A run of DriverEntry, from its first instruction to its end.
 
-ghost use Rattle.std.specs.Prelude.{◌≡◌, [], ◌≢◌, ℕ, ◌+◌, ◌<◌, ◌≤◌, true, false, OnOk, OnErr, IfOk, IfSome, IfNone, MatchResult};
-ghost use Rattle.ia32_step.specs.Machine.{outcome, answer_to};
-ghost use Rattle.driver_entry.specs.Run.{FaultsBy, Inputs, machine, turned, is_moved};
+ghost use Rattle.std.specs.Prelude.{◌≡◌, [], ◌∷◌, ◌≢◌, ℕ, ◌+◌, ◌<◌, ◌≤◌, true, false, OnOk, OnErr, IfOk, IfSome, IfNone, MatchResult};
+ghost use Rattle.ia32_step.specs.Machine.{machine, outcome, answer_to, Trapped};
+ghost use Rattle.driver_entry.specs.Guest.{driver_entry_words};
+ghost use Rattle.driver_entry.specs.Run.{FaultsBy, Inputs, first_context, turned, is_moved};
 ghost use Rattle.driver_entry.specs.Session.{machine_of, IsOpen, IsRunning, AddsEntries, HasBrokenOff, HasEnded};
-ghost use Rattle.ia32_step.specs.Machine.{Trapped};
 
 use crate::entries::{Entry, Handler};
-use crate::guest::{DRIVER_ENTRY_WORDS, LEAVE_SLOT, LOAD_BASE, STACK_END, put_words, start_memory};
+use crate::guest::{CONTEXT, DRIVER_ENTRY_WORDS, entered_memory, entered_registers};
+use crate::word_list::Words;
+use crate::write_list::Writes;
 use ia32_step::{FaultKind, Regs, Stepped, step};
-use nd_base::{Addr, CtxNo, OutOfMemory, Slot, Status};
+use nd_base::{Addr, OutOfMemory, Slot, Status};
 use nd_mem::Memory;
 use pe_image::Image;
 use std::alloc::Global;
@@ -54,22 +56,29 @@ fn make_turn(regs: &mut Regs, memory: &mut Memory, most: u8) -> Turned
     }
 }
 
-/// The context of DriverEntry.
-const CONTEXT: CtxNo = CtxNo(0);
-
 /// The number of the register that a status is returned in.
 const EAX: u8 = 0;
-
-/// The number of the stack pointer.
-const ESP: u8 = 4;
-
-/// Where DriverEntry's stack begins: the address that it returns to, and its two words.
-const STACK_POINTER: u32 = STACK_END - 12;
 
 /// A turn ends at this many instructions.
 const TURN_LENGTH: u32 = 64;
 
-/// A run of DriverEntry as far as it has come.
+/// A log whose one entry enters DriverEntry.
+fn entered_log(alloc: Global) -> Result<Vec<Entry>, OutOfMemory>
+    ensures { IfOk result (λ log. log.items ≡ Entry.Enter None first_context Handler.DriverEntry driver_entry_words [] ∷ []) }
+{
+    let words = Words::copy(alloc, &DRIVER_ENTRY_WORDS)?;
+    let mut log = Vec::new(alloc);
+    log.push(Entry::Enter {
+        adapter: None,
+        context: CONTEXT,
+        handler: Handler::DriverEntry,
+        words,
+        writes: Writes::new(alloc),
+    })?;
+    Ok(log)
+}
+
+/// A run of DriverEntry.
 #[derive(Drop)]
 pub struct Session {
     pub regs: Regs,
@@ -88,19 +97,9 @@ impl Session {
         requires no_imports { image.now.imports ≡ [] }
         ensures { IfOk result (IsRunning (record { image = image.now; budget = budget })) }
     {
-        let entry = image.entry();
-        let mut memory = start_memory(alloc, image)?;
-        let [driver, registry] = DRIVER_ENTRY_WORDS;
-        put_words(&mut memory, STACK_POINTER, &[LEAVE_SLOT, driver, registry]);
-        let mut regs = Regs::new();
-        regs.set(ESP, STACK_POINTER);
-        regs.set_eip(LOAD_BASE + entry);
-        let mut log = Vec::new(alloc);
-        log.push(Entry::Enter {
-            context: CONTEXT,
-            handler: Handler::DriverEntry,
-            words: DRIVER_ENTRY_WORDS,
-        })?;
+        let regs = entered_registers(image);
+        let memory = entered_memory(alloc, image)?;
+        let log = entered_log(alloc)?;
         Ok(Session {
             regs,
             memory,
@@ -119,6 +118,7 @@ impl Session {
         ensures went { IfOk result (λ last. last ≡ Stepped.Went → self.old.charged < self.new.charged) }
         ensures added { OnOk result (AddsEntries self.old self.new) }
         ensures unlogged { OnErr result (self.new.log.items ≡ self.old.log.items) }
+        ensures uncharged { OnErr result (self.new.charged ≡ self.old.charged) }
     {
         let most = (self.budget - self.charged).min(TURN_LENGTH) as u8;
         let turned = make_turn(&mut self.regs, &mut self.memory, most);
@@ -127,7 +127,7 @@ impl Session {
         }
         self.log.push(Entry::Turn {
             context: CONTEXT,
-            count: turned.count,
+            count: u64::from(turned.count),
         })?;
         self.charged += u32::from(turned.count);
         Ok(turned.last)
@@ -140,6 +140,7 @@ impl Session {
         requires faults { FaultsBy (outcome (machine_of self.old)) self.old.regs.eip kind address }
         ensures ended { IfOk result (λ ending. HasEnded inputs self.new ending) }
         ensures unlogged { OnErr result (self.new.log.items ≡ self.old.log.items) }
+        ensures uncharged { OnErr result (self.new.charged ≡ self.old.charged) }
     {
         self.log.push(Entry::Fault {
             context: CONTEXT,
@@ -156,13 +157,14 @@ impl Session {
         requires leaves { outcome (machine_of self.old) ≡ Trapped Slot.Leave }
         ensures ended { IfOk result (λ ending. HasEnded inputs self.new ending) }
         ensures unlogged { OnErr result (self.new.log.items ≡ self.old.log.items) }
+        ensures uncharged { OnErr result (self.new.charged ≡ self.old.charged) }
     {
-        let status = Status(self.regs.get(EAX));
+        let eax = self.regs.get(EAX);
         self.log.push(Entry::Leave {
             context: CONTEXT,
-            status,
+            eax,
         })?;
-        Ok(Ending::Left(status))
+        Ok(Ending::Left(Status(eax)))
     }
 
     /// One turn and what ends it. Answers how DriverEntry ended, if it did.

@@ -1,21 +1,22 @@
 -- The reading of a file from left to right is what the grammar says.
-use Rattle.std.proofs.Common.{◌≡◌, ◌≢◌, ℕ, suc, ◌+◌, ◌-◌, ◌<◌, ◌≤◌, Bool, true, false, cond, leb, eqb, ◌&&◌, List, [], ◌∷◌, ◌++◌, length, get_or, map, take, drop, Option, Some, None, Result, Ok, Err, refl, sym, ap, subst, ◌∙◌, append_assoc, arith, inl, inr, ◌⊎◌, lit<, MatchResult}
-use Rattle.std.specs.Prelude.{IfOk, IfErr}
+use Rattle.std.proofs.Common.{◌≡◌, ◌≢◌, ℕ, suc, ◌+◌, ◌-◌, ◌^◌, ◌<◌, ◌≤◌, Bool, true, false, cond, leb, eqb, ◌&&◌, List, [], ◌∷◌, ◌++◌, length, get_or, map, take, drop, Option, Some, None, Result, Ok, Err, refl, sym, ap, subst, ◌∙◌, append_assoc, arith, inl, inr, ◌⊎◌, lit<, MatchResult}
+use Rattle.std.specs.Prelude.{IfOk, IfErr, IsOk}
 use Rattle.std.specs.Global.{Vec}
 use Rattle.std.specs.List.{AllByRecursion}
 use Rattle.std.proofs.lemmas.Bool.{cases_lt, le-ltb, lt-ltb, eqb-true, eqb-false, leb-true, ne_eqb}
-use Rattle.std.proofs.lemmas.List.{append-nil, length-append, length-drop, get_or-append-add}
+use Rattle.std.proofs.lemmas.List.{append-nil, length-append, length-drop, length-map, get_or-append-add}
+use Rattle.nd_base.specs.Results.{◌>>=◌}
 use Rattle.frame_wire.specs.declared.order.Order.{Order}
 use Rattle.frame_wire.specs.declared.arrival.Arrival.{Arrival}
 use Rattle.frame_wire.specs.declared.refusal.WireRefusal.{WireRefusal}
 use Rattle.frame_wire.specs.declared.refusal.WireRefusal.TheVariants.{OutOfMemory, TooLong, BadHeader, LinkType, CutShort, Length, Backwards}
 use Rattle.frame_wire.specs.Entries.{number, value, field, magic, Entry, time, IsWhole, arrival}
-use Rattle.frame_wire.specs.Captures.{header, spellings, DoNotFall, last_time, start_time, IsGood, IsFront, front, IsSpelled, IsEthernetLong, IsCutShort, IsRefused}
-use Rattle.frame_wire.specs.Reading.{Fails, Gives, order_of, whole_at, judged, first_time, frames_from, entries_of, with_header, reading}
+use Rattle.frame_wire.specs.Captures.{header, spellings, DoNotFall, last_time, start_time, IsGood, IsFront, front, IsSpelled, StampsDoNotFall, IsEthernetLong, StartsAt, IsFrameBelow, CanArrive, IsCutShort, IsRefused}
+use Rattle.frame_wire.specs.Reading.{order_of, whole_at, judged, first_time, frames_from, entries_of, count_of, with_link, header_of, reading}
 use Rattle.frame_wire.proofs.Numbers.{IsBytes, IsBytes-drop, number_len, field_fits, whole_of, whole_is, first_of_front}
 use Rattle.frame_wire.proofs.Headers.{header_len, order_again, order_found, HasHeader, header_again, header_parts, other_len}
-use Rattle.frame_wire.proofs.Loop.{with_front, stopped, too_many, ended}
-use Rattle.frame_wire.proofs.Fronts.{cons-append, judged_bad, judged_back, IsBad, frames_again, Stops, Longest, longest}
+use Rattle.frame_wire.proofs.Loop.{with_front, judged_bad, judged_back, stopped, too_many, ended}
+use Rattle.frame_wire.proofs.Fronts.{cons-append, IsBad, frames_again, Stops, Longest, longest}
 
 abbrev pub IsReading : List ℕ → Result (List Arrival) WireRefusal → Type 0
 IsReading bytes (Ok fs) = IsSpelled bytes fs
@@ -23,22 +24,44 @@ IsReading bytes (Err e) = IsRefused bytes e
 
 -- ---- from the grammar to the reading
 
-reading_long : (bytes : List ℕ) → 134217728 < length bytes → reading bytes ≡ Err TooLong
+by_header_of : (bytes : List ℕ) (r : Result Order WireRefusal) → header_of bytes ≡ r → reading bytes ≡ (r >>= λ order. entries_of order (drop 24 bytes))
 unfolding reading
-reading_long bytes lt = ap (λ (b : Bool). cond b (Err TooLong) (with_header (order_of bytes) bytes)) (lt-ltb _ _ lt)
+by_header_of bytes r is = ap (λ (x : Result Order WireRefusal). x >>= λ order. entries_of order (drop 24 bytes)) is
 
-reading_short : (bytes : List ℕ) (o : Option Order) → length bytes ≤ 134217728 → order_of bytes ≡ o → reading bytes ≡ with_header o bytes
-unfolding reading
-reading_short bytes o le is = ap (λ (b : Bool). cond b (Err TooLong) (with_header (order_of bytes) bytes)) (le-ltb _ _ le) ∙ ap (λ (x : Option Order). with_header x bytes) is
+err_of_count : (read : Result (List Arrival) WireRefusal) (e : WireRefusal) → count_of read ≡ Err e → read ≡ Err e
+err_of_count (Ok fs) e h = absurd cc
+err_of_count (Err d) e h = let same : d ≡ e = cc in ap (λ (x : WireRefusal). Err x) same
+
+ok_of_count : (read : Result (List Arrival) WireRefusal) (n : ℕ) → count_of read ≡ Ok n → IsOk read
+ok_of_count (Ok fs) n h = refl
+ok_of_count (Err d) n h = absurd cc
+
+-- what is read behind a good header
+pub read_behind : (bytes : List ℕ) (order : Order) (entries : List ℕ) → header_of bytes ≡ Ok order → entries ≡ drop 24 bytes → reading bytes ≡ entries_of order entries
+read_behind bytes order entries is parts = by_header_of bytes (Ok order) is ∙ ap (entries_of order) (sym parts)
+
+pub fault_behind : (bytes : List ℕ) (order : Order) (entries : List ℕ) (e : WireRefusal) → header_of bytes ≡ Ok order → entries ≡ drop 24 bytes → count_of (entries_of order entries) ≡ Err e → reading bytes ≡ Err e
+fault_behind bytes order entries e is parts bad = read_behind bytes order entries is parts ∙ err_of_count (entries_of order entries) e bad
+
+pub good_behind : (bytes : List ℕ) (order : Order) (entries : List ℕ) (n : ℕ) → header_of bytes ≡ Ok order → entries ≡ drop 24 bytes → count_of (entries_of order entries) ≡ Ok n → IsOk (reading bytes)
+good_behind bytes order entries n is parts good = subst (λ (r : Result (List Arrival) WireRefusal). IsOk r) (sym (read_behind bytes order entries is parts)) (ok_of_count (entries_of order entries) n good)
+
+reading_long : (bytes : List ℕ) → 134217728 < length bytes → reading bytes ≡ Err TooLong
+reading_long bytes lt = by_header_of bytes (Err TooLong) (ap (λ (b : Bool). cond b (Err TooLong) (with_link (order_of bytes) bytes)) (lt-ltb _ _ lt))
+
+header_short : (bytes : List ℕ) (o : Option Order) → length bytes ≤ 134217728 → order_of bytes ≡ o → header_of bytes ≡ with_link o bytes
+header_short bytes o le is = ap (λ (b : Bool). cond b (Err TooLong) (with_link (order_of bytes) bytes)) (le-ltb _ _ le) ∙ ap (λ (x : Option Order). with_link x bytes) is
+
+reading_none : (bytes : List ℕ) → length bytes ≤ 134217728 → order_of bytes ≡ None → reading bytes ≡ Err BadHeader
+reading_none bytes le is = by_header_of bytes (Err BadHeader) (header_short bytes None le is)
 
 reading_link : (order : Order) (link : ℕ) (bytes rest : List ℕ) → length bytes ≤ 134217728 → HasHeader order link bytes rest → link ≢ 1 → reading bytes ≡ Err (LinkType link)
 reading_link order link bytes rest le h ne =
-    reading_short bytes (Some order) le h.order_is ∙ ap (λ (n : ℕ). cond (eqb n 1) (entries_of order (drop 24 bytes)) (Err (LinkType n))) h.link_is
-    ∙ ap (λ (b : Bool). cond b (entries_of order (drop 24 bytes)) (Err (LinkType link))) (ne_eqb _ _ ne)
+    by_header_of bytes (Err (LinkType link)) (header_short bytes (Some order) le h.order_is ∙ ap (λ (n : ℕ). cond (eqb n 1) (Ok order) (Err (LinkType n))) h.link_is ∙ ap (λ (b : Bool). cond b (Ok order) (Err (LinkType link))) (ne_eqb _ _ ne))
 
-pub reading_entries : (order : Order) (bytes rest : List ℕ) → length bytes ≤ 134217728 → HasHeader order 1 bytes rest → reading bytes ≡ entries_of order rest
+reading_entries : (order : Order) (bytes rest : List ℕ) → length bytes ≤ 134217728 → HasHeader order 1 bytes rest → reading bytes ≡ entries_of order rest
 reading_entries order bytes rest le h =
-    reading_short bytes (Some order) le h.order_is ∙ ap (λ (n : ℕ). cond (eqb n 1) (entries_of order (drop 24 bytes)) (Err (LinkType n))) h.link_is ∙ ap (entries_of order) h.rest_is
+    by_header_of bytes (Ok order) (header_short bytes (Some order) le h.order_is ∙ ap (λ (n : ℕ). cond (eqb n 1) (Ok order) (Err (LinkType n))) h.link_is) ∙ ap (entries_of order) h.rest_is
 
 -- the first time in front of entries is that of the first
 first_is : (order : Order) (e : Entry) (es : List Entry) (rest : List ℕ) → IsWhole e → first_time order (spellings order (e ∷ es) ++ rest) ≡ time e
@@ -116,7 +139,7 @@ refused_again bytes TooLong fits (inl lt) = reading_long bytes lt
 refused_again bytes TooLong fits (inr (le, (order, other, es, rest, f, is, some, count))) =
     let first = first_time order (spellings order es ++ rest) in
     front_again bytes order other es rest 0 le f is (omega arith) ∙ ap (with_front (map (arrival (start_time es)) es)) (too_many order first (last_time first es) (24 + length (spellings order es)) rest (some_in rest some))
-refused_again bytes BadHeader fits (le, none) = reading_short bytes None le (no_header bytes (order_of bytes) fits refl none)
+refused_again bytes BadHeader fits (le, none) = reading_none bytes le (no_header bytes (order_of bytes) fits refl none)
 refused_again bytes (LinkType n) fits (le, lt, ne, (order, other, rest, len, is)) = reading_link order n bytes rest le (header_again order other n bytes rest len lt is) ne
 refused_again bytes (CutShort k) fits (le, (order, other, es, rest, f, is, some, (lt, at_is, cut))) =
     let first = first_time order (spellings order es ++ rest) in
@@ -203,15 +226,6 @@ is_read bytes r fits e =
 
 -- ---- what a reader's answer says
 
-fails_is : {Y : Type 0} (e : WireRefusal) (r : Result Y WireRefusal) → Fails e r → (e ≡ OutOfMemory) ⊎ (r ≡ Err e)
-fails_is OutOfMemory r h = inl refl
-fails_is TooLong r h = inr h
-fails_is BadHeader r h = inr h
-fails_is (LinkType n) r h = inr h
-fails_is (CutShort k) r h = inr h
-fails_is (Length k) r h = inr h
-fails_is (Backwards k) r h = inr h
-
 abbrev read_ok : List Arrival → Result (List Arrival) WireRefusal
 read_ok fs = Ok fs
 
@@ -227,33 +241,45 @@ err_err a b e = cc
 ok_err : (a : List Arrival) (b : WireRefusal) → read_ok a ≡ read_err b → ⊥
 ok_err a b e = cc
 
-pub is_found : (bytes : List ℕ) (r : Result (Vec Arrival) WireRefusal) → IsBytes bytes → Gives (λ v. v.items) r (reading bytes) → IfOk r (λ v. IsSpelled bytes v.items)
+-- what is read, or its fault, or want of memory where frames are to be read
+abbrev pub Answers : List ℕ → Result (Vec Arrival) WireRefusal → Type 0
+Answers bytes r = MatchResult r (λ v. reading bytes ≡ Ok v.items) (λ e. (reading bytes ≡ Err e) ⊎ ((e ≡ OutOfMemory) × IsOk (reading bytes)))
+
+pub is_found : (bytes : List ℕ) (r : Result (Vec Arrival) WireRefusal) → IsBytes bytes → Answers bytes r → IfOk r (λ v. IsSpelled bytes v.items)
 is_found bytes (Ok v) fits h = is_read bytes (Ok v.items) fits h
 is_found bytes (Err e) fits h = tt
 
-pub is_only : (bytes : List ℕ) (r : Result (Vec Arrival) WireRefusal) (fs : List Arrival) → IsSpelled bytes fs → Gives (λ v. v.items) r (reading bytes) → MatchResult r (λ v. v.items ≡ fs) (λ e. e ≡ OutOfMemory)
+pub is_only : (bytes : List ℕ) (r : Result (Vec Arrival) WireRefusal) (fs : List Arrival) → IsSpelled bytes fs → Answers bytes r → MatchResult r (λ v. v.items ≡ fs) (λ e. e ≡ OutOfMemory)
 is_only bytes (Ok v) fs spelled h = ok_ok v.items fs (sym h ∙ spelled_again bytes fs spelled)
-is_only bytes (Err e) fs spelled h =
-    elim (fails_is e (reading bytes) h) [
-      | inl m ↦ m
-      | inr is ↦ absurd (ok_err fs e (sym (spelled_again bytes fs spelled) ∙ is))
-    ]
+is_only bytes (Err e) fs spelled (inl is) = absurd (ok_err fs e (sym (spelled_again bytes fs spelled) ∙ is))
+is_only bytes (Err e) fs spelled (inr m) = m.0
 
-pub is_refused : (bytes : List ℕ) (r : Result (Vec Arrival) WireRefusal) → IsBytes bytes → Gives (λ v. v.items) r (reading bytes) → IfErr r (λ e. (e ≡ OutOfMemory) ⊎ IsRefused bytes e)
+pub is_refused : (bytes : List ℕ) (r : Result (Vec Arrival) WireRefusal) → IsBytes bytes → Answers bytes r → IfErr r (λ e. (e ≡ OutOfMemory) ⊎ IsRefused bytes e)
 is_refused bytes (Ok v) fits h = tt
-is_refused bytes (Err e) fits h =
-    elim (fails_is e (reading bytes) h) [
-      | inl m ↦ inl m
-      | inr is ↦ inr (is_read bytes (Err e) fits is)
-    ]
+is_refused bytes (Err e) fits (inl is) = inr (is_read bytes (Err e) fits is)
+is_refused bytes (Err e) fits (inr m) = inl m.0
 
-pub is_first : (bytes : List ℕ) (r : Result (Vec Arrival) WireRefusal) (e : WireRefusal) → IsBytes bytes → IsRefused bytes e → Gives (λ v. v.items) r (reading bytes) → MatchResult r (λ _. ⊥) (λ d. (d ≡ OutOfMemory) ⊎ (d ≡ e))
-is_first bytes (Ok v) e fits refused h = ok_err v.items e (sym h ∙ refused_again bytes e fits refused)
-is_first bytes (Err d) e fits refused h =
-    elim (fails_is d (reading bytes) h) [
-      | inl m ↦ inl m
-      | inr is ↦ inr (err_err d e (sym is ∙ refused_again bytes e fits refused))
-    ]
+-- an error is no reading's value
+not_ok : (bytes : List ℕ) (e : WireRefusal) → reading bytes ≡ Err e → IsOk (reading bytes) → ⊥
+not_ok bytes e is ok =
+    let bad : IsOk (read_err e) = subst (λ (r : Result (List Arrival) WireRefusal). IsOk r) is ok in
+    cc
+
+pub is_first : (bytes : List ℕ) (r : Result (Vec Arrival) WireRefusal) (e : WireRefusal) → IsBytes bytes → IsRefused bytes e → Answers bytes r → r ≡ Err e
+is_first bytes (Ok v) e fits refused h = absurd (ok_err v.items e (sym h ∙ refused_again bytes e fits refused))
+is_first bytes (Err d) e fits refused (inl is) = ap (λ (x : WireRefusal). Err x) (err_err d e (sym is ∙ refused_again bytes e fits refused))
+is_first bytes (Err d) e fits refused (inr m) = absurd (not_ok bytes e (refused_again bytes e fits refused) m.1)
+
+spelled_where_ok : (bytes : List ℕ) (read : Result (List Arrival) WireRefusal) → IsBytes bytes → reading bytes ≡ read → IsOk read → (fs : List Arrival) × IsSpelled bytes fs
+spelled_where_ok bytes (Ok fs) fits is ok = (fs, is_read bytes (Ok fs) fits is)
+spelled_where_ok bytes (Err e) fits is ok = absurd cc
+
+pub is_memory : (bytes : List ℕ) (r : Result (Vec Arrival) WireRefusal) → IsBytes bytes → Answers bytes r → r ≡ Err OutOfMemory → (fs : List Arrival) × IsSpelled bytes fs
+is_memory bytes (Ok v) fits h e = absurd cc
+is_memory bytes (Err d) fits (inl is) e =
+    let same : d ≡ OutOfMemory = cc in
+    absurd (subst (λ (x : WireRefusal). IsRefused bytes x) same (is_read bytes (Err d) fits is))
+is_memory bytes (Err d) fits (inr m) e = spelled_where_ok bytes (reading bytes) fits refl m.1
 
 three_true : (a b c : Bool) → (a && (b && c)) ≡ true → (b ≡ true) × (c ≡ true)
 three_true true true true e = (refl, refl)
@@ -261,18 +287,55 @@ three_true true true false e = absurd cc
 three_true true false c e = absurd cc
 three_true false b c e = absurd cc
 
-are_long : (n : ℕ) (es : List Entry) → AllByRecursion IsGood es → AllByRecursion IsEthernetLong (map (arrival n) es)
-are_long n [] good = tt
-are_long n (e ∷ es) good =
-    let t = three_true (eqb e.included e.original) (leb 14 e.included) (leb e.included 1514) good.0.1 in
-    let len = good.0.0.frame in
-    ((omega (arith, len, leb-true _ _ t.0), omega (arith, len, leb-true _ _ t.1)), are_long n es good.1)
+long_enough : (e : Entry) → IsGood e → (14 ≤ length e.frame) × (length e.frame ≤ 1514)
+long_enough e good =
+    let t = three_true (eqb e.included e.original) (leb 14 e.included) (leb e.included 1514) good.1 in
+    let len = good.0.frame in
+    (omega (arith, len, leb-true _ _ t.0), omega (arith, len, leb-true _ _ t.1))
 
-pub lengths_fit : (bytes : List ℕ) (fs : List Arrival) → IsSpelled bytes fs → AllByRecursion IsEthernetLong fs
-lengths_fit bytes fs (le, (order, other, es, f, is, frames)) = subst (λ (gs : List Arrival). AllByRecursion IsEthernetLong gs) (sym frames) (are_long (start_time es) es f.good)
+arrives : (first : ℕ) (e : Entry) → IsGood e → IsFrameBelow (2 ^ 52) (arrival first e)
+arrives first e good =
+    let seconds = good.0.seconds in
+    let microseconds = good.0.microseconds in
+    record { length_fits = long_enough e good; stamp = omega arith }
 
-pub are_lengths : (bytes : List ℕ) (r : Result (Vec Arrival) WireRefusal) → IsBytes bytes → Gives (λ v. v.items) r (reading bytes) → IfOk r (λ v. AllByRecursion IsEthernetLong v.items)
-are_lengths bytes (Ok v) fits h = lengths_fit bytes v.items (is_read bytes (Ok v.items) fits h)
+arrive : (first : ℕ) (es : List Entry) → AllByRecursion IsGood es → AllByRecursion (IsFrameBelow (2 ^ 52)) (map (arrival first) es)
+arrive first [] good = tt
+arrive first (e ∷ es) good = (arrives first e good.0, arrive first es good.1)
+
+rise : (first last stamp : ℕ) (es : List Entry) → stamp ≤ 1000000 + (last - first) → DoNotFall last es → StampsDoNotFall stamp (map (arrival first) es)
+rise first last stamp [] le rising = tt
+rise first last stamp (e ∷ es) le rising =
+    let later = rising.0 in
+    (omega (arith, later), rise first (time e) (1000000 + (time e - first)) es (omega arith) rising.1)
+
+start : (es : List Entry) → StartsAt 1000000 (map (arrival (start_time es)) es)
+start [] = tt
+start (e ∷ es) = omega arith
+
+lengths : (fs : List Arrival) → AllByRecursion (IsFrameBelow (2 ^ 52)) fs → AllByRecursion IsEthernetLong fs
+lengths [] h = tt
+lengths (f ∷ fs) h = (h.0.length_fits, lengths fs h.1)
+
+-- the frames that a file has can arrive on a wire
+can_arrive : (bytes : List ℕ) (fs : List Arrival) → IsSpelled bytes fs → CanArrive fs
+can_arrive bytes fs (le, (order, other, es, f, is, frames)) =
+    let count = f.count in
+    subst (λ (gs : List Arrival). CanArrive gs) (sym frames) (record { fits = arrive (start_time es) es f.good; rising = rise (start_time es) 0 0 es (omega arith) f.rising; count = omega (arith, length-map es (arrival (start_time es))) })
+
+starts : (bytes : List ℕ) (fs : List Arrival) → IsSpelled bytes fs → StartsAt 1000000 fs
+starts bytes fs (le, (order, other, es, f, is, frames)) = subst (λ (gs : List Arrival). StartsAt 1000000 gs) (sym frames) (start es)
+
+pub is_wire : (bytes : List ℕ) (r : Result (Vec Arrival) WireRefusal) → IsBytes bytes → Answers bytes r → IfOk r (λ v. CanArrive v.items)
+is_wire bytes (Ok v) fits h = can_arrive bytes v.items (is_read bytes (Ok v.items) fits h)
+is_wire bytes (Err e) fits h = tt
+
+pub is_start : (bytes : List ℕ) (r : Result (Vec Arrival) WireRefusal) → IsBytes bytes → Answers bytes r → IfOk r (λ v. StartsAt 1000000 v.items)
+is_start bytes (Ok v) fits h = starts bytes v.items (is_read bytes (Ok v.items) fits h)
+is_start bytes (Err e) fits h = tt
+
+pub are_lengths : (bytes : List ℕ) (r : Result (Vec Arrival) WireRefusal) → IsBytes bytes → Answers bytes r → IfOk r (λ v. AllByRecursion IsEthernetLong v.items)
+are_lengths bytes (Ok v) fits h = let can = can_arrive bytes v.items (is_read bytes (Ok v.items) fits h) in lengths v.items can.fits
 are_lengths bytes (Err e) fits h = tt
 
 pub one_value : (bytes : List ℕ) (a b : List Arrival) → IsSpelled bytes a → IsSpelled bytes b → a ≡ b

@@ -1,18 +1,18 @@
 -- The entries of the longest good front are read, and reading stops behind them.
 use Rattle.std.proofs.Common.{◌≡◌, ℕ, zero, suc, ◌+◌, ◌-◌, ◌<◌, ◌≤◌, Bool, true, false, ltb, List, [], ◌∷◌, ◌++◌, length, map, Option, Some, None, Result, Ok, Err, refl, sym, ap, ◌∙◌, append_assoc, zero-add, add-zero, arith, inl, inr, ◌⊎◌}
 use Rattle.std.specs.List.{AllByRecursion}
-use Rattle.std.proofs.lemmas.Bool.{ltb-false, le-ltb, ltb-true, lt-ltb}
+use Rattle.std.proofs.lemmas.Bool.{ltb-false, ltb-true}
 use Rattle.std.proofs.lemmas.List.{length-append}
 use Rattle.std.proofs.lemmas.List.Concat.{flat_map-cons}
+use Rattle.nd_base.specs.Results.{◌>>=◌}
 use Rattle.frame_wire.specs.declared.order.Order.{Order}
 use Rattle.frame_wire.specs.declared.arrival.Arrival.{Arrival}
 use Rattle.frame_wire.specs.declared.refusal.WireRefusal.{WireRefusal}
-use Rattle.frame_wire.specs.declared.refusal.WireRefusal.TheVariants.{Length, Backwards}
 use Rattle.frame_wire.specs.Entries.{Entry, spelling, time, has_good_length, arrival}
 use Rattle.frame_wire.specs.Captures.{spellings, DoNotFall, last_time, IsGood}
-use Rattle.frame_wire.specs.Reading.{◌>>=◌, whole_at, judged, frames_from}
+use Rattle.frame_wire.specs.Reading.{whole_at, judged, frames_from}
 use Rattle.frame_wire.proofs.Numbers.{IsBytes, whole_of, whole_is}
-use Rattle.frame_wire.proofs.Loop.{with_front, taken}
+use Rattle.frame_wire.proofs.Loop.{with_front, with_nil, judged_good, taken}
 
 pub spellings-nil : (order : Order) → spellings order [] ≡ []
 unfolding spellings
@@ -25,30 +25,11 @@ spellings-cons order e es = flat_map-cons (spelling order) e es
 pub cons-append : (order : Order) (e : Entry) (es : List Entry) (rest : List ℕ) → spellings order (e ∷ es) ++ rest ≡ spelling order e ++ (spellings order es ++ rest)
 cons-append order e es rest = ap (λ (x : List ℕ). x ++ rest) (spellings-cons order e es) ∙ append_assoc (spelling order e) (spellings order es) rest
 
--- ---- what is taken of an entry
-
-pub judged_good : (at last : ℕ) (x : Entry × List ℕ) → has_good_length x.0 ≡ true → last ≤ time x.0 → judged at last (Some x) ≡ Ok x
-judged_good at last x good le =
-    let test : ltb (time x.0) last ≡ false = le-ltb _ _ le in
-    rw (good, test) refl
-
-pub judged_bad : (at last : ℕ) (x : Entry × List ℕ) → has_good_length x.0 ≡ false → judged at last (Some x) ≡ Err (Length at)
-judged_bad at last x bad = rw bad refl
-
-pub judged_back : (at last : ℕ) (x : Entry × List ℕ) → has_good_length x.0 ≡ true → time x.0 < last → judged at last (Some x) ≡ Err (Backwards at)
-judged_back at last x good lt =
-    let test : ltb (time x.0) last ≡ true = lt-ltb _ _ lt in
-    rw (good, test) refl
-
 -- why an entry isn't taken
 abbrev pub IsBad : Order → ℕ → List ℕ → Type 0
 IsBad order last rest = (whole_at order rest ≡ None) ⊎ ((x : Entry × List ℕ) × (whole_at order rest ≡ Some x) × ((has_good_length x.0 ≡ false) ⊎ ((has_good_length x.0 ≡ true) × (time x.0 < last))))
 
 -- ---- entries that are read
-
-with_nil : (read : Result (List Arrival) WireRefusal) → with_front [] read ≡ read
-with_nil (Ok x) = refl
-with_nil (Err e) = refl
 
 front-cons : (f : Arrival) (fs : List Arrival) (read : Result (List Arrival) WireRefusal) → (with_front fs read >>= λ others. Ok (f ∷ others)) ≡ with_front (f ∷ fs) read
 front-cons f fs (Ok x) = refl

@@ -7,33 +7,37 @@ use Rattle.std.proofs.lemmas.List.Concat.{flat_map-cons}
 use Rattle.frame_wire.specs.declared.order.Order.TheVariants.{Little}
 use Rattle.frame_wire.specs.declared.arrival.Arrival.{Arrival}
 use Rattle.frame_wire.specs.Entries.{number, Entry, spelling, time, has_good_length, arrival, entry}
-use Rattle.frame_wire.specs.Captures.{header, spellings, DoNotFall, start_time, IsGood, IsFront, IsSpelled, usual, written, start_stamp, rebased, StampsDoNotFall, HasSpelling, CanReturn}
+use Rattle.frame_wire.specs.Captures.{header, spellings, DoNotFall, start_time, IsGood, IsFront, IsSpelled, usual, written, start_stamp, rebased, StampsDoNotFall, IsFrameBelow, CanReturn}
 use Rattle.frame_wire.proofs.Headers.{header_len}
 use Rattle.frame_wire.proofs.Fronts.{spellings-nil, spellings-cons}
 
-time_is : (f : Arrival) → HasSpelling f → time (entry f) ≡ f.stamp
+-- what the file can hold of a frame
+abbrev IsWritable : Arrival → Type 0
+IsWritable f = IsFrameBelow (2 ^ 32 * 1000000) f
+
+time_is : (f : Arrival) → IsWritable f → time (entry f) ≡ f.stamp
 time_is f h = let lt = h.stamp in omega arith
 
-len_is : (f : Arrival) → HasSpelling f → length f.bytes % 2 ^ 32 ≡ length f.bytes
+len_is : (f : Arrival) → IsWritable f → length f.bytes % 2 ^ 32 ≡ length f.bytes
 len_is f h = let most = h.length_fits.1 in omega arith
 
 all_three : (a b c : Bool) → a ≡ true → b ≡ true → c ≡ true → (a && (b && c)) ≡ true
 all_three a b c p q r = rw (p, q, r) refl
 
-good_length : (f : Arrival) → HasSpelling f → has_good_length (entry f) ≡ true
+good_length : (f : Arrival) → IsWritable f → has_good_length (entry f) ≡ true
 good_length f h =
     let least = h.length_fits.0 in
     let most = h.length_fits.1 in
     all_three (eqb (length f.bytes % 2 ^ 32) (length f.bytes % 2 ^ 32)) (leb 14 (length f.bytes % 2 ^ 32)) (leb (length f.bytes % 2 ^ 32) 1514) (eq-eqb _ _ refl) (le-leb _ _ (omega arith)) (le-leb _ _ (omega arith))
 
-is_good : (f : Arrival) → HasSpelling f → IsGood (entry f)
+is_good : (f : Arrival) → IsWritable f → IsGood (entry f)
 is_good f h = (record { seconds = omega arith; microseconds = omega arith; included = omega arith; original = omega arith; frame = sym (len_is f h) }, good_length f h)
 
-are_good : (fs : List Arrival) → AllByRecursion HasSpelling fs → AllByRecursion IsGood (map entry fs)
+are_good : (fs : List Arrival) → AllByRecursion IsWritable fs → AllByRecursion IsGood (map entry fs)
 are_good [] h = tt
 are_good (f ∷ fs) h = (is_good f h.0, are_good fs h.1)
 
-rises : (last : ℕ) (fs : List Arrival) → AllByRecursion HasSpelling fs → StampsDoNotFall last fs → DoNotFall last (map entry fs)
+rises : (last : ℕ) (fs : List Arrival) → AllByRecursion IsWritable fs → StampsDoNotFall last fs → DoNotFall last (map entry fs)
 rises last [] h r = tt
 rises last (f ∷ fs) h r =
     let is = time_is f h.0 in
@@ -43,11 +47,11 @@ spells : (fs : List Arrival) → flat_map (λ f. spelling Little (entry f)) fs �
 spells [] = sym (spellings-nil Little)
 spells (f ∷ fs) = flat_map-cons (λ f. spelling Little (entry f)) f fs ∙ ap (λ (x : List ℕ). spelling Little (entry f) ++ x) (spells fs) ∙ sym (spellings-cons Little (entry f) (map entry fs))
 
-starts : (fs : List Arrival) → AllByRecursion HasSpelling fs → start_time (map entry fs) ≡ start_stamp fs
+starts : (fs : List Arrival) → AllByRecursion IsWritable fs → start_time (map entry fs) ≡ start_stamp fs
 starts [] h = refl
 starts (f ∷ fs) h = time_is f h.0
 
-moves : (n : ℕ) (fs : List Arrival) → AllByRecursion HasSpelling fs → map (λ (f : Arrival). record { stamp = 1000000 + (f.stamp - n); bytes = f.bytes }) fs ≡ map (arrival n) (map entry fs)
+moves : (n : ℕ) (fs : List Arrival) → AllByRecursion IsWritable fs → map (λ (f : Arrival). record { stamp = 1000000 + (f.stamp - n); bytes = f.bytes }) fs ≡ map (arrival n) (map entry fs)
 moves n [] h = refl
 moves n (f ∷ fs) h =
     let one : record { stamp = 1000000 + (f.stamp - n); bytes = f.bytes } ≡ arrival n (entry f) = ap (λ (t : ℕ). record { stamp = 1000000 + (t - n); bytes = f.bytes }) (sym (time_is f h.0)) in
@@ -57,7 +61,7 @@ spelling_len : (e : Entry) → length (spelling Little e) ≡ 16 + length e.fram
 unfolding spelling
 spelling_len e = omega arith
 
-short : (fs : List Arrival) → AllByRecursion HasSpelling fs → length (flat_map (λ f. spelling Little (entry f)) fs) ≤ 1530 * length fs
+short : (fs : List Arrival) → AllByRecursion IsWritable fs → length (flat_map (λ f. spelling Little (entry f)) fs) ≤ 1530 * length fs
 short [] h = omega arith
 short (f ∷ fs) h =
     let most = h.0.length_fits.1 in

@@ -100,12 +100,26 @@ StampsDoNotFall last (f ∷ fs) = (last ≤ f.stamp) × StampsDoNotFall f.stamp 
 abbrev pub IsEthernetLong : Arrival → Type 0
 IsEthernetLong f = (14 ≤ length f.bytes) × (length f.bytes ≤ 1514)
 
-pub record HasSpelling (f : Arrival) : Type 0 where
-  pub length_fits : IsEthernetLong f
-  pub stamp : f.stamp < 2 ^ 32 * 1000000
+-- the first frame, where there is one, has this stamp
+abbrev pub StartsAt : ℕ → List Arrival → Type 0
+StartsAt stamp [] = Unit {0}
+StartsAt stamp (f ∷ fs) = f.stamp ≡ stamp
 
--- what a file can hold
-pub record CanReturn (fs : List Arrival) : Type 0 where
-  pub fits : AllByRecursion HasSpelling fs
+-- an Ethernet frame with a stamp below a bound
+pub record IsFrameBelow (bound : ℕ) (f : Arrival) : Type 0 where
+  pub length_fits : IsEthernetLong f
+  pub stamp : f.stamp < bound
+
+-- at most 65,536 Ethernet frames, whose stamps do not fall and are below a bound
+pub record AreFramesBelow (bound : ℕ) (fs : List Arrival) : Type 0 where
+  pub fits : AllByRecursion (IsFrameBelow bound) fs
   pub rising : StampsDoNotFall 0 fs
   pub count : length fs ≤ 65536
+
+-- what a file can hold: stamps below 2^32 seconds
+abbrev pub CanReturn : List Arrival → Type 0
+CanReturn fs = AreFramesBelow (2 ^ 32 * 1000000) fs
+
+-- what a wire can bring
+abbrev pub CanArrive : List Arrival → Type 0
+CanArrive fs = AreFramesBelow (2 ^ 52) fs

@@ -1,31 +1,13 @@
 -- Reading from left to right, with the first fault that is met.
-use Rattle.std.specs.Prelude.{◌≡◌, ℕ, zero, suc, ◌+◌, ◌-◌, not, List, [], ◌∷◌, length, take, drop, Option, Some, None, Result, Ok, Err, nat_lt, ◌==◌, if◌then◌else◌}
+use Rattle.std.specs.Prelude.{ℕ, zero, suc, ◌+◌, ◌-◌, not, List, [], ◌∷◌, length, take, drop, Option, Some, None, Result, Ok, Err, nat_lt, ◌==◌, if◌then◌else◌}
+use Rattle.nd_base.specs.Results.{◌>>=◌}
 use Rattle.frame_wire.specs.declared.entry.Entry as code
 use Rattle.frame_wire.specs.declared.order.Order.{Order}
 use Rattle.frame_wire.specs.declared.order.Order.TheVariants.{Little, Big}
 use Rattle.frame_wire.specs.declared.arrival.Arrival.{Arrival}
 use Rattle.frame_wire.specs.declared.refusal.WireRefusal.{WireRefusal}
-use Rattle.frame_wire.specs.declared.refusal.WireRefusal.TheVariants.{OutOfMemory, TooLong, BadHeader, LinkType, CutShort, Length, Backwards}
+use Rattle.frame_wire.specs.declared.refusal.WireRefusal.TheVariants.{TooLong, BadHeader, LinkType, CutShort, Length, Backwards}
 use Rattle.frame_wire.specs.Entries.{value, field, magic, Entry, time, has_good_length, arrival}
-
-infixl 10 ◌>>=◌
-abbrev pub ◌>>=◌ : {A B : Type 0} → Result A WireRefusal → (A → Result B WireRefusal) → Result B WireRefusal
-(Ok x) >>= f = f x
-(Err e) >>= f = Err e
-
--- What a function returned, seen by view, is what reading gives, unless memory ran out.
-abbrev pub Fails : {Y : Type 0} → WireRefusal → Result Y WireRefusal → Type 0
-Fails OutOfMemory read = Unit {0}
-Fails TooLong read = read ≡ Err TooLong
-Fails BadHeader read = read ≡ Err BadHeader
-Fails (LinkType n) read = read ≡ Err (LinkType n)
-Fails (CutShort at) read = read ≡ Err (CutShort at)
-Fails (Length at) read = read ≡ Err (Length at)
-Fails (Backwards at) read = read ≡ Err (Backwards at)
-
-abbrev pub Gives : {X Y : Type 0} → (X → Y) → Result X WireRefusal → Result Y WireRefusal → Type 0
-Gives view (Ok x) read = read ≡ Ok (view x)
-Gives view (Err e) read = Fails e read
 
 -- an entry without where its frame lies
 abbrev pub seen : code.Entry → Entry
@@ -63,9 +45,19 @@ frames_from order first last at (suc n) (b ∷ bytes) = do
 abbrev pub entries_of : Order → List ℕ → Result (List Arrival) WireRefusal
 entries_of order bytes = frames_from order (first_time order bytes) (first_time order bytes) 24 65536 bytes
 
-abbrev pub with_header : Option Order → List ℕ → Result (List Arrival) WireRefusal
-with_header None bytes = Err BadHeader
-with_header (Some order) bytes = if value order (field 20 bytes) == 1 then entries_of order (drop 24 bytes) else Err (LinkType (value order (field 20 bytes)))
+-- how many there are
+abbrev pub count_of : Result (List Arrival) WireRefusal → Result ℕ WireRefusal
+count_of (Ok fs) = Ok (length fs)
+count_of (Err e) = Err e
+
+-- the link type of a file in a byte order is that of Ethernet
+abbrev pub with_link : Option Order → List ℕ → Result Order WireRefusal
+with_link None bytes = Err BadHeader
+with_link (Some order) bytes = if value order (field 20 bytes) == 1 then Ok order else Err (LinkType (value order (field 20 bytes)))
+
+-- the byte order of a file that is not too long and has the header of an Ethernet capture
+abbrev pub header_of : List ℕ → Result Order WireRefusal
+header_of bytes = if nat_lt 134217728 (length bytes) then Err TooLong else with_link (order_of bytes) bytes
 
 unfoldable pub reading : List ℕ → Result (List Arrival) WireRefusal
-reading bytes = if nat_lt 134217728 (length bytes) then Err TooLong else with_header (order_of bytes) bytes
+reading bytes = header_of bytes >>= λ order. entries_of order (drop 24 bytes)

@@ -1,9 +1,9 @@
 //! The entries of a file.
 
-ghost use Rattle.std.specs.Prelude.{◌≡◌, ◌≤◌, ◌<◌, length, IfSome, IfOk};
+ghost use Rattle.std.specs.Prelude.{◌≡◌, ◌≤◌, ◌<◌, length, IfSome, IfOk, MatchResult, Ok, Err};
 ghost use Rattle.std.specs.Option.{option_map};
 ghost use Rattle.frame_wire.specs.Entries.{time, has_good_length};
-ghost use Rattle.frame_wire.specs.Reading.{Gives, seen, whole_at, judged, first_time};
+ghost use Rattle.frame_wire.specs.Reading.{seen, whole_at, judged, first_time};
 
 use crate::order::Order;
 use crate::refusal::WireRefusal;
@@ -58,7 +58,7 @@ pub fn first_time(order: Order, bytes: &[u8]) -> u64
 
 /// The entry at the front, where its bytes are there, and the bytes behind it.
 #[tactic(auto, unfolding(crate::specs::Reading::whole_at))]
-fn whole_at(order: Order, bytes: &[u8]) -> Option<(Entry<'_>, &[u8])>
+pub fn whole_at(order: Order, bytes: &[u8]) -> Option<(Entry<'_>, &[u8])>
     ensures value { option_map (λ x. (seen x.0, x.1.now)) result ≡ whole_at order bytes.now }
     ensures shorter { IfSome result (λ x. length x.1.now < length bytes.now) }
 {
@@ -89,7 +89,7 @@ pub fn next_entry(
     at: u64,
     bytes: &[u8],
 ) -> Result<(Entry<'_>, &[u8]), WireRefusal>
-    ensures value { Gives (λ x. (seen x.0, x.1.now)) result (judged at last (whole_at order bytes.now)) }
+    ensures value { let found = judged at last (whole_at order bytes.now) in MatchResult result (λ x. found ≡ Ok (seen x.0, x.1.now)) (λ e. found ≡ Err e) }
     ensures shorter { IfOk result (λ x. length x.1.now < length bytes.now) }
     ensures later { IfOk result (λ x. last ≤ time (seen x.0)) }
 {

@@ -3,7 +3,9 @@
 //! in little-endian, as version 2.4.
 //!
 //! Of a file that is read, the version, the time zone, the accuracy and the snap length are not
-//! judged, nor microseconds of a million and more, which count as the time that they are.
+//! judged, nor microseconds of a million and more, which count as the time that they are. A file is
+//! judged to its end before any memory is taken, so what is wrong with it is told however little
+//! memory there is.
 #![tactic(auto)]
 
 mod arrival;
@@ -18,6 +20,3 @@ pub use arrival::Arrival;
 pub use reading::{one_reading, read_frames};
 pub use refusal::WireRefusal;
 pub use writing::{round_trip, write_frames};
-
-#[cfg(test)]
-mod tests;

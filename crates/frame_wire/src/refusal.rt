@@ -3,11 +3,10 @@
 ghost use Rattle.std.specs.Prelude.{◌≡◌};
 ghost use Rattle.frame_wire.specs.declared.refusal.WireRefusal.TheVariants.{OutOfMemory};
 
-use std::alloc::{AllocError, AllocFailed};
 use thiserror::Error;
 
-/// Why a file of frames is not read: the first fault from its start. A place is an offset in the
-/// file, that of the entry which is refused.
+/// Why a file of frames is not read: the first fault from its start, or want of memory where there
+/// is none. A place is an offset in the file, that of the entry which is refused.
 #[derive(Clone, Copy, Debug, PartialEq, Eq, Error)]
 pub enum WireRefusal {
     /// Want of memory.
@@ -39,22 +38,6 @@ impl From<nd_base::OutOfMemory> for WireRefusal {
     ghost from_gives = { λ _ e. e ≡ OutOfMemory };
 
     fn from(_error: nd_base::OutOfMemory) -> WireRefusal {
-        WireRefusal::OutOfMemory
-    }
-}
-
-impl From<AllocError> for WireRefusal {
-    ghost from_gives = { λ _ e. e ≡ OutOfMemory };
-
-    fn from(_error: AllocError) -> WireRefusal {
-        WireRefusal::OutOfMemory
-    }
-}
-
-impl<T: Drop> From<AllocFailed<T>> for WireRefusal {
-    ghost from_gives = { λ _ e. e ≡ OutOfMemory };
-
-    fn from(_error: AllocFailed<T>) -> WireRefusal {
         WireRefusal::OutOfMemory
     }
 }

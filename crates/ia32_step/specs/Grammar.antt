@@ -20,34 +20,31 @@ IsInstruction (Add register immediate) = (register < 8) × IsSignExtended immedi
 IsInstruction (Ret bytes) = bytes < 2 ^ 16
 IsInstruction (Jmp displacement) = IsSignExtended displacement
 
--- B8+rd id, MOV r32, imm32; 83 /0 ib, ADD r/m32, imm8, where mod of the ModRM byte is 3; C2 iw, RET imm16; EB cb, JMP rel8
-abbrev pub spelling : Instruction → List ℕ
-spelling (Mov register immediate) = (0xB8 + register) ∷ to_le_bytes w32 immediate
-spelling (Add register immediate) = 0x83 ∷ (0xC0 + register) ∷ (immediate % 2 ^ 8) ∷ []
-spelling (Ret bytes) = 0xC2 ∷ to_le_bytes w16 bytes
-spelling (Jmp displacement) = 0xEB ∷ (displacement % 2 ^ 8) ∷ []
+-- which bytes spell an instruction, with a row of the manual each
+abbrev pub Spells : List ℕ → Instruction → Type 0
+-- B8+rd id: MOV r32, imm32
+Spells bytes (Mov register immediate) = (register < 8) × (immediate < 2 ^ 32) × (bytes ≡ (0xB8 + register) ∷ to_le_bytes w32 immediate)
+-- 83 /0 ib: ADD r/m32, imm8, where mod of the ModRM byte is 3
+Spells bytes (Add register immediate) = (register < 8) × IsSignExtended immediate × (bytes ≡ 0x83 ∷ (0xC0 + register) ∷ (immediate % 2 ^ 8) ∷ [])
+-- C2 iw: RET imm16
+Spells bytes (Ret count) = (count < 2 ^ 16) × (bytes ≡ 0xC2 ∷ to_le_bytes w16 count)
+-- EB cb: JMP rel8
+Spells bytes (Jmp displacement) = IsSignExtended displacement × (bytes ≡ 0xEB ∷ (displacement % 2 ^ 8) ∷ [])
 
--- ---- what is read, by the spelling alone
-
--- an instruction's spelling is these bytes and then the rest
-pub record Begins (bytes : List ℕ) (instruction : Instruction) (rest : List ℕ) : Type 0 where
-  pub operands : IsInstruction instruction
-  pub spelled : bytes ++ rest ≡ spelling instruction
+-- ---- what is read, by the spellings alone
 
 -- an instruction begins with these bytes
 abbrev pub IsBegun : List ℕ → Type 0
-IsBegun bytes = (instruction : Instruction) × (rest : List ℕ) × Begins bytes instruction rest
+IsBegun bytes = (instruction : Instruction) × (rest : List ℕ) × Spells (bytes ++ rest) instruction
 
 -- an instruction begins with these bytes and is longer
 abbrev pub IsUnfinished : List ℕ → Type 0
-IsUnfinished bytes = (instruction : Instruction) × (rest : List ℕ) × (0 < length rest) × Begins bytes instruction rest
+IsUnfinished bytes = (instruction : Instruction) × (rest : List ℕ) × (0 < length rest) × Spells (bytes ++ rest) instruction
 
--- a front of the bytes spells the instruction, and is so long
+-- so many of the bytes spell the instruction
 pub record IsOne (bytes : List ℕ) (instruction : Instruction) (size : ℕ) : Type 0 where
-  pub rest : List ℕ
-  pub operands : IsInstruction instruction
-  pub spelled : spelling instruction ++ rest ≡ bytes
-  pub long : size ≡ length (spelling instruction)
+  pub within : size ≤ length bytes
+  pub spelled : Spells (take size bytes) instruction
 
 -- an instruction begins with the bytes before the index and is longer, and none begins with them and the one at the index
 pub record IsOutside (bytes : List ℕ) (index : ℕ) : Type 0 where
@@ -64,9 +61,18 @@ IsReading bytes More = IsUnfinished bytes
 abbrev pub IsOnlyReading : List ℕ → Decoded → Type 0
 IsOnlyReading bytes read = (d : Decoded) → (read ≡ d) ↔ IsReading bytes d
 
--- no bytes begin with two instructions: none is spelled as another, and none begins another
+-- no bytes begin with two spellings: none spells two instructions, and none begins another
 abbrev pub SpellingIsOne : Type 0
-SpellingIsOne = (i j : Instruction) (xs ys : List ℕ) → IsInstruction i → IsInstruction j → spelling i ++ xs ≡ spelling j ++ ys → i ≡ j
+SpellingIsOne = (i j : Instruction) (spelling spelling' rest rest' : List ℕ) → Spells spelling i → Spells spelling' j → spelling ++ rest ≡ spelling' ++ rest' → (i ≡ j) × (spelling ≡ spelling')
+
+-- each instruction has a spelling, and what is spelled is an instruction
+pub record SpellingIsWhole : Type 0 where
+  pub some : (i : Instruction) → IsInstruction i → (spelling : List ℕ) × Spells spelling i
+  pub only : (i : Instruction) (spelling : List ℕ) → Spells spelling i → IsInstruction i
+  -- of so many bytes
+  pub least : (i : Instruction) (spelling : List ℕ) → Spells spelling i → 0 < length spelling
+  pub most : (i : Instruction) (spelling : List ℕ) → Spells spelling i → length spelling ≤ 15
+  pub bytes : (i : Instruction) (spelling : List ℕ) → Spells spelling i → All (λ b. b < 2 ^ 8) spelling
 
 -- ---- reading it, by cases on the bytes
 

@@ -3,5 +3,4 @@ pub mod Seen
 pub mod State
 pub mod Grammar
 pub mod Meaning
-pub mod Slots
 pub mod Machine

@@ -13,9 +13,9 @@ use Rattle.ia32_step.specs.declared.Stepped.TheVariants.{Trap, Went, Fault}
 pub use Rattle.ia32_step.specs.State.{Machine, machine, Outcome, Trapped, Moved, Faulted}
 use Rattle.ia32_step.specs.State.{cells_of}
 use Rattle.ia32_step.specs.declared.grammar.Instruction.{Instruction}
-use Rattle.ia32_step.specs.Grammar.{decoded, IsInstruction, spelling, IsOutside, IsUnfinished}
+use Rattle.ia32_step.specs.Grammar.{decoded, Spells, IsOutside, IsUnfinished}
 use Rattle.ia32_step.specs.Meaning.{faulted, meaning}
-use Rattle.ia32_step.specs.Slots.{slot_at}
+use Rattle.guest_map.specs.Slots.{slot_at}
 
 -- ---- one step
 
@@ -68,12 +68,12 @@ after (Faulted _ _) m = m
 abbrev pub moved : Machine → Machine
 moved m = after (outcome m) m
 
--- ---- the same by the spelling alone
+-- ---- the same by the spellings alone
 
 -- What stands at an EIP that is no slot's address:
 pub record StepsAsSpelled (m : Machine) : Type 0 where
   -- an instruction is done
-  pub done : (i : Instruction) (rest : List ℕ) → IsInstruction i → spelling i ++ rest ≡ code_of m → outcome m ≡ meaning i (length (spelling i)) m
+  pub done : (i : Instruction) (spelling rest : List ℕ) → Spells spelling i → spelling ++ rest ≡ code_of m → outcome m ≡ meaning i (length spelling) m
   -- bytes that begin no instruction are outside
   pub outside : (k : ℕ) → All (λ b. b < 2 ^ 8) (code_of m) → IsOutside (code_of m) k → outcome m ≡ Faulted kind.Outside (address m.registers.eip)
   -- where the bytes that can be executed end before an instruction does, the next byte faults

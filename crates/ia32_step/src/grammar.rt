@@ -1,7 +1,7 @@
 //! The instructions that are read, and how they are spelled (Intel SDM volume 2).
 
 ghost use Rattle.std.specs.Prelude.{◌≡◌, ◌≤◌, ◌<◌, length};
-ghost use Rattle.ia32_step.specs.Grammar.{decoded, decoded_after, decoded_move, decoded_add, decoded_sum, decoded_return, decoded_jump, sign_extended, IsOnlyReading, ReadingIsExact, SpellingIsOne};
+ghost use Rattle.ia32_step.specs.Grammar.{decoded, decoded_after, decoded_move, decoded_add, decoded_sum, decoded_return, decoded_jump, sign_extended, IsOnlyReading, ReadingIsExact, SpellingIsOne, SpellingIsWhole};
 
 /// An instruction with its operands. Registers are numbered as in a ModRM byte.
 #[derive(Clone, Copy, Debug, PartialEq, Eq)]
@@ -120,7 +120,12 @@ pub fn reading_is_exact()
     ensures { ReadingIsExact }
 {}
 
-/// No two instructions have one spelling, and none begins with another.
+/// No two instructions have one spelling, and no spelling begins with another.
 pub fn spelling_is_one()
     ensures { SpellingIsOne }
+{}
+
+/// Each instruction has a spelling, of 1 to 15 bytes, and nothing else is spelled.
+pub fn spelling_is_whole()
+    ensures { SpellingIsWhole }
 {}

@@ -10,15 +10,14 @@ ghost use Rattle.ia32_step.specs.Machine.{machine, run_of, cut_off, outcome, ans
 mod grammar;
 mod meaning;
 mod registers;
-mod slots;
 
-pub use grammar::{reading_is_exact, spelling_is_one};
+pub use grammar::{reading_is_exact, spelling_is_one, spelling_is_whole};
 use grammar::{Decoded, decode};
+use guest_map::slot_at;
 use meaning::{execute, refused};
 use nd_base::{Addr, Slot};
-use nd_mem::Memory;
+use nd_mem::{Memory, fetch_laws, read_laws};
 pub use registers::{Flag, Regs};
-use slots::slot_at;
 
 /// Why an instruction has no result.
 #[derive(Clone, Copy, Debug, PartialEq, Eq)]
@@ -77,12 +76,12 @@ pub fn step(r: &mut Regs, m: &mut Memory) -> Stepped
     ensures answer { result ≡ answer_to (outcome (record { registers = r.old; memory = m.old })) }
     ensures state { record { registers = r.new; memory = m.new } ≡ moved (record { registers = r.old; memory = m.old }) }
 {
-    let eip = r.eip();
+    let eip = Addr(r.eip());
     if let Some(slot) = slot_at(eip) {
         return Stepped::Trap(slot);
     }
     let mut code = [0; 15];
-    match m.fetch(Addr(eip), &mut code) {
+    match m.fetch(eip, &mut code) {
         Ok(length) => run(&code[..length], r, m),
         Err(fault) => refused(fault),
     }
@@ -91,7 +90,7 @@ pub fn step(r: &mut Regs, m: &mut Memory) -> Stepped
 /// A step does the instruction that is spelled at EIP, or says why there is none.
 pub fn each_step_is_as_spelled()
     ensures { EachStepIsAsSpelled }
-{}
-
-#[cfg(test)]
-mod tests;
+{
+    read_laws();
+    fetch_laws();
+}

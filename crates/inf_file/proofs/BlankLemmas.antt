@@ -4,10 +4,9 @@ use Rattle.std.specs.List.{onto_first}
 use Rattle.std.proofs.lemmas.Bool.{cases_Bool, eqb-true}
 use Rattle.std.proofs.lemmas.List.{append-nil}
 use Rattle.inf_file.specs.Quotes.{is_blank, turned, is_open, is_mark, front_len, trimmed_start, trimmed_end, resolved_behind, value, parts, values}
-use Rattle.inf_file.specs.Written.{quoted}
-use Rattle.inf_file.specs.Layout.{AreBlanks}
+use Rattle.inf_file.specs.Layout.{quoted, AreBlanks}
 use Rattle.inf_file.proofs.QuoteLoops.{end_blank}
-use Rattle.inf_file.proofs.WrittenLines.{value_quoted}
+use Rattle.inf_file.proofs.QuotedLemmas.{value_quoted}
 
 abbrev pub IsBlank : ℕ → Type 0
 IsBlank b = (b ≡ 32) ⊎ (b ≡ 9)

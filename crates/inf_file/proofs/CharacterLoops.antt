@@ -1,5 +1,5 @@
 -- Units, one after the other.
-use Rattle.std.proofs.Common.{◌≡◌, ℕ, suc, ◌+◌, ◌*◌, ◌<◌, ◌≤◌, true, false, List, [], ◌∷◌, length, drop, get_or, Option, Some, None, refl, ap, ◌∙◌, arith}
+use Rattle.std.proofs.Common.{◌≡◌, ℕ, zero, suc, ◌+◌, ◌*◌, ◌/◌, ◌<◌, ◌≤◌, true, false, List, [], ◌∷◌, length, drop, get_or, Option, Some, None, refl, ap, ◌∙◌, arith}
 use Rattle.inf_file.specs.Characters.{units, is_bad, one_on, first_bad}
 use Rattle.inf_file.proofs.Slices.{from_here, none_left, get_further}
 
@@ -28,26 +28,26 @@ pub bad_end : (before : ℕ) (us : List ℕ) (i : ℕ) → length us ≤ i → f
 unfolding first_bad
 bad_end before us i h = ap (λ (xs : List ℕ). further i (first_bad before xs)) (none_left us i h)
 
-pub units_on : (bytes : List ℕ) → 2 ≤ length bytes → units bytes ≡ (get_or bytes 0 0 + 256 * get_or bytes 1 0) ∷ units (drop 2 bytes)
+pub units_half : (bytes : List ℕ) → length (units bytes) ≡ length bytes / 2
 unfolding units
-units_on [] h = absurd (omega arith)
-units_on (a ∷ []) h = absurd (omega arith)
-units_on (a ∷ b ∷ bytes) h = refl
+units_half [] = refl
+units_half (a ∷ []) = refl
+units_half (a ∷ b ∷ bytes) = omega (arith, units_half bytes)
 
-pub units_end : (bytes : List ℕ) → length bytes < 2 → units bytes ≡ []
+pub unit_here : (bytes : List ℕ) (i : ℕ) → i < length bytes / 2 → get_or bytes (2 * i) 0 + 256 * get_or bytes (2 * i + 1) 0 ≡ get_or (units bytes) i 0
 unfolding units
-units_end [] h = refl
-units_end (a ∷ []) h = refl
-units_end (a ∷ b ∷ bytes) h = absurd (omega arith)
+unit_here [] i h = absurd (omega arith)
+unit_here (a ∷ []) i h = absurd (omega arith)
+unit_here (a ∷ b ∷ bytes) zero h = refl
+unit_here (a ∷ b ∷ bytes) (suc i) h =
+    let low : 2 * suc i ≡ suc (suc (2 * i)) = omega arith in
+    let high : 2 * suc i + 1 ≡ suc (suc (2 * i + 1)) = omega arith in
+    rw (high, low) (unit_here bytes i (omega arith))
 
-pub units_len : (bytes : List ℕ) → 2 * length (units bytes) ≤ length bytes
-unfolding units
-units_len [] = omega arith
-units_len (a ∷ []) = omega arith
-units_len (a ∷ b ∷ bytes) = omega (arith, units_len bytes)
+past_end : (xs : List ℕ) (i : ℕ) → length xs ≤ i → 0 ≡ get_or xs i 0
+past_end [] i h = refl
+past_end (x ∷ xs) zero h = absurd (omega arith)
+past_end (x ∷ xs) (suc i) h = past_end xs i (omega arith)
 
-pub place_small : (bytes us : List ℕ) (i : ℕ) → us ≡ units bytes → i < length us → 2 * i < length bytes
-place_small bytes us i is lt = omega (arith, units_len bytes, ap length is)
-
-pub units_short : (bytes us : List ℕ) → us ≡ units bytes → length us ≤ length bytes
-units_short bytes us is = omega (arith, units_len bytes, ap length is)
+pub no_unit : (bytes : List ℕ) (i : ℕ) → length bytes / 2 ≤ i → 0 ≡ get_or (units bytes) i 0
+no_unit bytes i h = past_end (units bytes) i (omega (arith, units_half bytes))

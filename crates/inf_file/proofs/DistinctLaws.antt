@@ -10,9 +10,9 @@ use Rattle.inf_file.specs.declared.joining.Joined.{Joined}
 use Rattle.inf_file.specs.declared.refusal.InfRefusal.{InfRefusal}
 use Rattle.inf_file.specs.declared.refusal.InfRefusal.TheVariants.{TooLong, Line as BadLine}
 use Rattle.inf_file.specs.Sections.{Line, Section, is_same, is_named, with_section, with_line}
-use Rattle.inf_file.specs.Quotes.{is_open, trimmed_start, cut}
+use Rattle.inf_file.specs.Quotes.{is_open, trimmed_start, cut, key_cut}
 use Rattle.inf_file.specs.Reading.{Front, with_header, entry, with_entry, with_text, with_joined, with_all, sections_of_lines, sections_of}
-use Rattle.inf_file.specs.Outcome.{◌>>=◌}
+use Rattle.nd_base.specs.Results.{◌>>=◌}
 use Rattle.inf_file.specs.Characters.{characters}
 use Rattle.inf_file.specs.Joining.{joined}
 use Rattle.inf_file.proofs.NameLaws.{other_back}
@@ -68,11 +68,11 @@ bad_differs n = tt
 text_differs : (n : ℕ) (front : Front) (cs : List ℕ) → Differ front.sections → DifferIn (with_text n front cs)
 unfolding DifferIn
 text_differs n front [] h = h
-text_differs n front (c ∷ cs) h = elim (cases_Bool (eqb c 91)) [
-  | inl on ↦ rw on (header_differs n front (cut 93 cs) h)
-  | inr off ↦ elim (cases_Bool (is_open false (c ∷ cs))) [
-    | inl open_quotes ↦ rw (off, open_quotes) (bad_differs n)
-    | inr closed ↦ rw (off, closed) (entry_differs (entry n (c ∷ cs) (cut 61 (c ∷ cs))) front.sections front.place h)
+text_differs n front (c ∷ cs) h = elim (cases_Bool (is_open false (c ∷ cs))) [
+  | inl open_quotes ↦ rw open_quotes (bad_differs n)
+  | inr closed ↦ elim (cases_Bool (eqb c 91)) [
+    | inl on ↦ rw (closed, on) (header_differs n front (cut 93 cs) h)
+    | inr off ↦ rw (closed, off) (entry_differs (entry n (c ∷ cs) (key_cut (c ∷ cs))) front.sections front.place h)
   ]
 ]
 

@@ -9,12 +9,12 @@ use Rattle.std.proofs.lemmas.List.{append-nil}
 use Rattle.std.proofs.lemmas.List.Splits.{slice_split-cons_no}
 use Rattle.inf_file.specs.declared.joining.Joined.{Joined}
 use Rattle.inf_file.specs.declared.refusal.InfRefusal.{InfRefusal}
-use Rattle.inf_file.specs.Outcome.{◌>>=◌}
+use Rattle.nd_base.specs.Results.{◌>>=◌}
 use Rattle.inf_file.specs.Quotes.{is_open, front_len, trimmed_start, trimmed_end}
 use Rattle.inf_file.specs.Joining.{said, last_of, goes_on, joined}
 use Rattle.inf_file.specs.Reading.{Front, with_joined, with_all}
-use Rattle.inf_file.specs.Written.{HasNoFeed}
-use Rattle.inf_file.proofs.WrittenFiles.{feeds-append, one_feed}
+use Rattle.inf_file.specs.Layout.{HasNoFeed}
+use Rattle.inf_file.proofs.FeedLemmas.{feeds-append, one_feed}
 use Rattle.inf_file.proofs.LayoutLines.{strip_other, whole_line, return_behind}
 
 split_none : (xs : List ℕ) → HasNoFeed xs → slice_split (λ b. eqb b 10) xs ≡ xs ∷ []

@@ -1,6 +1,8 @@
 -- Files whose lines have a layout are read as their sections.
-use Rattle.std.proofs.Common.{◌≡◌, ◌≢◌, ℕ, suc, ◌+◌, ◌≤◌, true, false, ltb, Option, Some, None, Ok, List, [], ◌∷◌, ◌++◌, length, take, drop, refl, sym, ap, ◌∙◌, inl, inr, arith, append_assoc, length-append}
+use Rattle.std.proofs.Common.{◌≡◌, ◌≢◌, ℕ, suc, ◌+◌, ◌≤◌, Bool, true, false, ltb, Option, Some, None, Ok, Err, List, [], ◌∷◌, ◌++◌, length, take, drop, refl, sym, ap, ◌∙◌, inl, inr, arith, append_assoc, length-append}
+use Rattle.std.specs.Prelude.{if◌then◌else◌}
 use Rattle.std.specs.List.{AllByRecursion}
+use Rattle.inf_file.specs.declared.refusal.InfRefusal.TheVariants.{Line as BadLine}
 use Rattle.std.specs.Str.Lines.{lines}
 use Rattle.std.proofs.lemmas.Bool.{cases_Bool}
 use Rattle.std.proofs.lemmas.Bool.Decides.{nat_tests}
@@ -8,72 +10,77 @@ use Rattle.std.proofs.Math.Seq.{take-append-add, drop-append-add}
 use Rattle.std.proofs.lemmas.List.{append-nil}
 use Rattle.inf_file.specs.Sections.{Line, Section, is_named, place_of, with_section, with_line}
 use Rattle.inf_file.specs.Characters.{characters}
-use Rattle.inf_file.specs.Quotes.{is_open, front_len, trimmed_start, value, cut, values}
+use Rattle.inf_file.specs.Quotes.{is_open, front_len, trimmed_start, value, cut, key_cut, values}
 use Rattle.inf_file.specs.Joining.{joined}
 use Rattle.inf_file.specs.Reading.{Front, with_header, entry, with_entry, with_text, with_joined, with_all, sections_of_lines, sections_of}
-use Rattle.inf_file.specs.Written.{HasNoFeed, CanBeLine}
-use Rattle.inf_file.specs.Layout.{Tail, Layout, AreBlanks, IsTail, IsSetting, IsLayout, quiet_lines, ended, number_at, next_at, spaced, spaced_values, behind_key, laid_line, laid_header, laid_lines, behind_lines, laid_out, AreLinesAt, ArePiecesAt, IsTextOf, with_piece, gathered}
+use Rattle.inf_file.specs.Layout.{HasNoFeed, CanBeLine, Tail, Layout, AreBlanks, IsTail, IsSetting, IsLayout, quiet_lines, ended, number_at, next_at, spaced, spaced_values, behind_key, laid_line, laid_header, laid_lines, behind_lines, laid_out, AreLinesAt, ArePiecesAt, IsTextOf, with_piece, gathered}
 use Rattle.inf_file.proofs.ReadingLoops.{read_on, all_sections}
-use Rattle.inf_file.proofs.WrittenLines.{cut_there, cut_nowhere, mark_here}
-use Rattle.inf_file.proofs.WrittenFiles.{all_step}
+use Rattle.inf_file.proofs.QuotedLemmas.{cut_there, mark_here, mark_other, key_there, key_nowhere}
+use Rattle.inf_file.proofs.FeedLemmas.{all_step}
 use Rattle.inf_file.proofs.BlankLemmas.{open_blanks, front_blanks, start_blanks, value_blanks, values_blanks}
-use Rattle.inf_file.proofs.WordLemmas.{Begins, Trimmed, value_spaced, front_spaced, values_spaced, front_spaced_values, trimmed_values, trimmed_more}
+use Rattle.inf_file.proofs.WordLemmas.{Begins, Trimmed, lacks_equals, value_spaced, open_spaced, front_free, front_spaced, values_spaced, equals_behind, trimmed_values, trimmed_more}
 use Rattle.inf_file.proofs.EndLemmas.{end_lacks}
-use Rattle.inf_file.proofs.LayoutLines.{quiet_read, laid_is, header_laid, line_laid}
+use Rattle.inf_file.proofs.LayoutLines.{ignored_open, quiet_read, laid_is, header_laid, line_laid}
 
 -- a line that is no header and begins with no blank
-text_step : (n : ℕ) (front : Front) (cs : List ℕ) → Begins cs → is_open false cs ≡ false → with_text n front cs ≡ with_entry (entry n cs (cut 61 cs)) front.sections front.place
+text_step : (n : ℕ) (front : Front) (cs : List ℕ) → Begins cs → is_open false cs ≡ false → with_text n front cs ≡ with_entry (entry n cs (key_cut cs)) front.sections front.place
 text_step n front cs b closed =
     let k : is_open false (b.first ∷ b.rest) ≡ false = rw b.begins at closed in
-    rw b.begins (rw (b.no_header, k) refl)
+    rw b.begins (rw (k, b.no_header) refl)
 
 begun : (cs : List ℕ) → Begins cs → trimmed_start cs ≡ cs
 unfolding trimmed_start
 begun cs b = rw b.begins (rw b.is_first refl)
 
 -- blanks in front change no line
-entry_blanks : (n : ℕ) (bs cs : List ℕ) → AreBlanks bs → entry n (bs ++ cs) (cut 61 (bs ++ cs)) ≡ entry n cs (cut 61 cs)
+entry_blanks : (n : ℕ) (bs cs : List ℕ) → AreBlanks bs → entry n (bs ++ cs) (key_cut (bs ++ cs)) ≡ entry n cs (key_cut cs)
 entry_blanks n bs cs h =
     let at = front_len 61 false cs in
+    let comma = front_len 44 false cs in
     let front : front_len 61 false (bs ++ cs) ≡ length bs + at = front_blanks 61 bs cs refl h in
-    elim (cases_Bool (ltb at (length cs))) [
+    let commas : front_len 44 false (bs ++ cs) ≡ length bs + comma = front_blanks 44 bs cs refl h in
+    elim (cases_Bool (ltb at comma)) [
       | inl on ↦
-          let lt : ltb (length bs + at) (length (bs ++ cs)) ≡ true = simp length-append (grind (arith, nat_tests)) in
+          let lt : ltb (length bs + at) (length bs + comma) ≡ true = grind (arith, nat_tests) in
           let e : length bs + at + 1 ≡ length bs + (at + 1) = omega arith in
-          rw front (rw (lt, on) (ap (λ (k : List ℕ). record { number = n; key = Some k; values = values (drop (length bs + at + 1) (bs ++ cs)) }) (ap (λ (xs : List ℕ). value xs) (take-append-add bs cs at) ∙ value_blanks bs (take at cs) h)
+          rw (front, commas) (rw (lt, on) (ap (λ (k : List ℕ). record { number = n; key = Some k; values = values (drop (length bs + at + 1) (bs ++ cs)) }) (ap (λ (xs : List ℕ). value xs) (take-append-add bs cs at) ∙ value_blanks bs (take at cs) h)
           ∙ ap (λ (xs : List ℕ). record { number = n; key = Some (value (take at cs)); values = values xs }) (ap (λ (m : ℕ). drop m (bs ++ cs)) e ∙ drop-append-add bs cs (at + 1))))
       | inr off ↦
-          let ge : ltb (length bs + at) (length (bs ++ cs)) ≡ false = simp length-append (grind (arith, nat_tests)) in
-          rw front (rw (ge, off) (ap (λ (xs : List (List ℕ)). record { number = n; key = None; values = xs }) (values_blanks bs cs h)))
+          let ge : ltb (length bs + at) (length bs + comma) ≡ false = grind (arith, nat_tests) in
+          rw (front, commas) (rw (ge, off) (ap (λ (xs : List (List ℕ)). record { number = n; key = None; values = xs }) (values_blanks bs cs h)))
     ]
 
-trimmed_step : (n : ℕ) (front : Front) (text : List ℕ) → Trimmed text → is_open false text ≡ false → with_joined front (record { number = n; text = text }) ≡ with_entry (entry n text (cut 61 text)) front.sections front.place
+trimmed_step : (n : ℕ) (front : Front) (text : List ℕ) → Trimmed text → is_open false text ≡ false → with_joined front (record { number = n; text = text }) ≡ with_entry (entry n text (key_cut text)) front.sections front.place
 trimmed_step n front text t closed =
     let inner : is_open false t.behind ≡ false = sym (open_blanks false t.blanks t.behind t.are) ∙ ap (is_open false) (sym t.text_is) ∙ closed in
     ap (with_text n front) (ap trimmed_start t.text_is ∙ start_blanks t.blanks t.behind t.are ∙ begun t.behind t.begins) ∙ text_step n front t.behind t.begins inner
-    ∙ ap (λ (line : Line). with_entry line front.sections front.place) (sym (entry_blanks n t.blanks t.behind t.are) ∙ ap (λ (cs : List ℕ). entry n cs (cut 61 cs)) (sym t.text_is))
+    ∙ ap (λ (line : Line). with_entry line front.sections front.place) (sym (entry_blanks n t.blanks t.behind t.are) ∙ ap (λ (cs : List ℕ). entry n cs (key_cut cs)) (sym t.text_is))
 
 module _ (l : Layout) (is : IsLayout l) where
   header_step : (n : ℕ) (front : Front) (name : List ℕ) → with_joined front (record { number = n; text = laid_header l name }) ≡ Ok (record { sections = with_section name front.sections; place = Some (place_of name front.sections) })
-  unfolding trimmed_start
+  unfolding trimmed_start is_open
   header_step n front name =
       let s = l.settings 0 in
       let set : IsSetting s = is.settings 0 in
+      let closed : is_open false (91 ∷ (spaced s name ++ 93 ∷ l.ignored)) ≡ false = open_spaced s set name (93 ∷ l.ignored) ∙ ignored_open l.ignored is.ignored in
       ap (with_text n front) (start_blanks l.indent (91 ∷ (spaced s name ++ 93 ∷ l.ignored)) is.indent)
+      ∙ ap (λ (b : Bool). if b then Err (BadLine n) else with_header n front (cut 93 (spaced s name ++ 93 ∷ l.ignored))) closed
       ∙ ap (with_header n front) (cut_there 93 (spaced s name) l.ignored (front_spaced s set 93 name (93 ∷ l.ignored) refl refl refl ∙ omega (arith, mark_here 93 l.ignored)))
       ∙ ap (λ (m : List ℕ). Ok (record { sections = with_section m front.sections; place = Some (place_of m front.sections) })) (value_spaced s set name)
 
-  entry_values : (n : ℕ) (vs : List (List ℕ)) → vs ≢ [] → entry n (spaced_values l.settings 1 vs) (cut 61 (spaced_values l.settings 1 vs)) ≡ record { number = n; key = None; values = vs }
+  entry_values : (n : ℕ) (vs : List (List ℕ)) → vs ≢ [] → entry n (spaced_values l.settings 1 vs) (key_cut (spaced_values l.settings 1 vs)) ≡ record { number = n; key = None; values = vs }
   entry_values n vs h =
-      ap (entry n (spaced_values l.settings 1 vs)) (cut_nowhere 61 (spaced_values l.settings 1 vs) (front_spaced_values l.settings is.settings 61 vs 1 refl refl refl refl))
+      ap (entry n (spaced_values l.settings 1 vs)) (key_nowhere (spaced_values l.settings 1 vs) (equals_behind l.settings is.settings vs 1 (λ text b. is.equals 1 (omega arith) text b)))
       ∙ ap (λ (xs : List (List ℕ)). record { number = n; key = None; values = xs }) (values_spaced l.settings is.settings vs 1 h)
 
-  entry_key : (n : ℕ) (key : List ℕ) (vs : List (List ℕ)) → vs ≢ [] → entry n (spaced (l.settings 0) key ++ 61 ∷ spaced_values l.settings 1 vs) (cut 61 (spaced (l.settings 0) key ++ 61 ∷ spaced_values l.settings 1 vs)) ≡ record { number = n; key = Some key; values = vs }
+  entry_key : (n : ℕ) (key : List ℕ) (vs : List (List ℕ)) → vs ≢ [] → entry n (spaced (l.settings 0) key ++ 61 ∷ spaced_values l.settings 1 vs) (key_cut (spaced (l.settings 0) key ++ 61 ∷ spaced_values l.settings 1 vs)) ≡ record { number = n; key = Some key; values = vs }
   entry_key n key vs h =
       let s = l.settings 0 in
       let set : IsSetting s = is.settings 0 in
       let rest = spaced_values l.settings 1 vs in
-      ap (entry n (spaced s key ++ 61 ∷ rest)) (cut_there 61 (spaced s key) rest (front_spaced s set 61 key (61 ∷ rest) refl refl refl ∙ omega (arith, mark_here 61 rest)))
+      let at : front_len 61 false (spaced s key ++ 61 ∷ rest) ≡ length (spaced s key) = front_free s set 61 key (61 ∷ rest) refl refl (λ b. lacks_equals key (is.equals 0 (omega arith) key b)) ∙ omega (arith, mark_here 61 rest) in
+      let comma : front_len 44 false (spaced s key ++ 61 ∷ rest) ≡ length (spaced s key) + front_len 44 false (61 ∷ rest) = front_spaced s set 44 key (61 ∷ rest) refl refl refl in
+      ap (entry n (spaced s key ++ 61 ∷ rest)) (key_there (spaced s key) rest at (omega (arith, comma, mark_other 44 61 rest refl refl)))
       ∙ ap (λ (k : List ℕ). record { number = n; key = Some k; values = values rest }) (value_spaced s set key)
       ∙ ap (λ (xs : List (List ℕ)). record { number = n; key = Some key; values = xs }) (values_spaced l.settings is.settings vs 1 h)
 

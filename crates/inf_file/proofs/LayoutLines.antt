@@ -9,11 +9,10 @@ use Rattle.std.proofs.Math.Seq.{take-length, take-append_seam}
 use Rattle.inf_file.specs.Quotes.{is_blank, turned, is_open, is_mark, front_len, trimmed_start, onto_rest, trimmed_end}
 use Rattle.inf_file.specs.Joining.{said, last_of, goes_on, kept, joined}
 use Rattle.inf_file.specs.Reading.{Front, with_text, with_joined, with_all}
-use Rattle.inf_file.specs.Written.{HasNoFeed, KeyHasNoFeed}
-use Rattle.inf_file.specs.Layout.{Tail, Break, Setting, Layout, AreBlanks, IsIgnored, IsTail, IsSetting, IsLayout, CommentHasNoFeed, comment_of, line_end, broken, quiet_lines, ended, number_at, next_at, spaced, spaced_values, behind_key, laid_header}
+use Rattle.inf_file.specs.Layout.{HasNoFeed, KeyHasNoFeed, Tail, Break, Setting, Layout, AreBlanks, IsIgnored, IsTail, IsSetting, IsLayout, CommentHasNoFeed, comment_of, line_end, broken, quiet_lines, ended, number_at, next_at, spaced, spaced_values, behind_key, laid_header}
 use Rattle.inf_file.proofs.QuoteLoops.{open_append, end_other, end_end}
 use Rattle.inf_file.proofs.JoinLoops.{parts_more, joined_on, joined_off}
-use Rattle.inf_file.proofs.WrittenFiles.{feeds-append, one_feed, last_is, split_feed, all_step}
+use Rattle.inf_file.proofs.FeedLemmas.{feeds-append, one_feed, last_is, split_feed, all_step}
 use Rattle.inf_file.proofs.BlankLemmas.{blank, no_blank, turned_blank, open_blanks, front_blanks, start_blanks, end_blanks}
 use Rattle.inf_file.proofs.WordLemmas.{last_more, blanks_append, none_spaced, open_spaced, front_spaced, open_spaced_values, front_spaced_values, feeds_spaced, spelled_ends}
 
@@ -338,7 +337,7 @@ unfolding front_len
 ignored_words [] h = refl
 ignored_words (c ∷ cs) h = rw (ignored_not c 59 h.0 refl) (ap suc (ap (λ (b : Bool). front_len 59 b cs) (ignored_turned c (ignored_not c 34 h.0 refl)) ∙ ignored_words cs h.1))
 
-ignored_open : (cs : List ℕ) → IsIgnored cs → is_open false cs ≡ false
+pub ignored_open : (cs : List ℕ) → IsIgnored cs → is_open false cs ≡ false
 unfolding is_open
 ignored_open [] h = refl
 ignored_open (c ∷ cs) h = ap (λ (b : Bool). is_open b cs) (ignored_turned c (ignored_not c 34 h.0 refl)) ∙ ignored_open cs h.1

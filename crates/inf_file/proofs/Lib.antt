@@ -3,6 +3,7 @@ pub mod TableLemmas
 pub mod SectionLemmas
 pub mod NumberLemmas
 pub mod StringLemmas
+pub mod StringLaws
 pub mod ModelLemmas
 pub mod ParamLemmas
 pub mod ListLemmas
@@ -16,8 +17,8 @@ pub mod QuoteLoops
 pub mod CharacterLoops
 pub mod JoinLoops
 pub mod ReadingLoops
-pub mod WrittenLines
-pub mod WrittenFiles
+pub mod QuotedLemmas
+pub mod FeedLemmas
 pub mod AnswerLaws
 pub mod NameLaws
 pub mod EarliestLaws

@@ -1,14 +1,14 @@
 -- One element more, and folds over parts of a list.
-use Rattle.std.proofs.Common.{inl, inr, ◌≡◌, ℕ, ◌+◌, ◌<◌, Bool, List, [], ◌∷◌, ◌++◌, length, take, get_or, filter, Option, refl, sym, ap, ◌∙◌}
+use Rattle.std.proofs.Common.{inl, inr, ◌≡◌, ℕ, ◌+◌, ◌<◌, Bool, List, [], ◌∷◌, ◌++◌, length, map, take, get_or, Option, refl, sym, ap, ◌∙◌}
 use Rattle.std.specs.Prelude.{if◌then◌else◌}
 use Rattle.std.specs.List.{fold, flat_map, filter_map, cons_option}
 use Rattle.std.proofs.lemmas.Bool.{cases_Bool}
-use Rattle.std.proofs.lemmas.List.{take_more}
+use Rattle.std.proofs.lemmas.List.{take_more, map-append}
 use Rattle.std.proofs.lemmas.List.Sums.{fold-append}
 use Rattle.std.proofs.lemmas.List.Elements.{filter_map-append}
 use Rattle.std.proofs.lemmas.List.Concat.{flat_map-cons}
 
-take_item : {A : Type 0} (xs : List A) (i : ℕ) (x : A) → i < length xs → x ≡ get_or xs i x → take (i + 1) xs ≡ take i xs ++ x ∷ []
+pub take_item : {A : Type 0} (xs : List A) (i : ℕ) (x : A) → i < length xs → x ≡ get_or xs i x → take (i + 1) xs ≡ take i xs ++ x ∷ []
 take_item xs i x lt e = take_more xs i x lt ∙ ap (λ y. take i xs ++ y ∷ []) (sym e)
 
 pub fold-more : {A B : Type 0} (f : B → A → B) (a : B) (xs : List A) (i : ℕ) (x : A) → i < length xs → x ≡ get_or xs i x → fold f a (take (i + 1) xs) ≡ f (fold f a (take i xs)) x
@@ -25,19 +25,15 @@ pub filter_map-flat : {A B C : Type 0} (h : A → Option B) (g : C → List A) (
 filter_map-flat h g [] = refl
 filter_map-flat h g (x ∷ xs) = flat_map-cons (λ y. filter_map h (g y)) x xs ∙ ap (λ rest. filter_map h (g x) ++ rest) (filter_map-flat h g xs) ∙ sym (filter_map-append h (g x) (flat_map g xs)) ∙ ap (filter_map h) (sym (flat_map-cons g x xs))
 
-pub fold-filter : {A B : Type 0} (f : B → A → B) (q : A → Bool) (a : B) (xs : List A) → fold (λ b x. if q x then f b x else b) a xs ≡ fold f a (filter q xs)
-fold-filter f q a [] = refl
-fold-filter f q a (x ∷ xs) = elim (cases_Bool (q x)) [
-  | inl on ↦ rw on (fold-filter f q (f a x) xs)
-  | inr off ↦ rw off (fold-filter f q a xs)
-]
-
-pub flat_map-filter : {A B : Type 0} (g : A → List B) (q : A → Bool) (xs : List A) → flat_map (λ x. if q x then g x else []) xs ≡ flat_map g (filter q xs)
-flat_map-filter g q [] = refl
-flat_map-filter g q (x ∷ xs) = elim (cases_Bool (q x)) [
-  | inl on ↦ flat_map-cons (λ y. if q y then g y else []) x xs ∙ rw on (ap (λ rest. g x ++ rest) (flat_map-filter g q xs) ∙ sym (flat_map-cons g x (filter q xs)))
-  | inr off ↦ flat_map-cons (λ y. if q y then g y else []) x xs ∙ rw off (flat_map-filter g q xs)
-]
-
 pub fold-all : {A B : Type 0} (f : B → A → B) (a : B) (xs : List A) (x : A) (ds rs : List A) → fold f a (xs ++ x ∷ (ds ++ rs)) ≡ fold f (fold f (f (fold f a xs) x) ds) rs
 fold-all f a xs x ds rs = fold-append f a xs (x ∷ (ds ++ rs)) ∙ fold-append f (f (fold f a xs) x) ds rs
+
+-- the same where the elements point to what is read
+map-more : {P A : Type 0} (now : P → A) (xs : List P) (i : ℕ) (x : P) → i < length xs → x ≡ get_or xs i x → map now (take (i + 1) xs) ≡ map now (take i xs) ++ now x ∷ []
+map-more now xs i x lt e = ap (map now) (take_item xs i x lt e) ∙ map-append now (take i xs) (x ∷ [])
+
+pub fold-mapped : {P A B : Type 0} (f : B → A → B) (now : P → A) (a : B) (xs : List P) (i : ℕ) (x : P) → i < length xs → x ≡ get_or xs i x → fold f a (map now (take (i + 1) xs)) ≡ f (fold f a (map now (take i xs))) (now x)
+fold-mapped f now a xs i x lt e = ap (fold f a) (map-more now xs i x lt e) ∙ fold-append f a (map now (take i xs)) (now x ∷ [])
+
+pub filter_map-mapped : {P A B : Type 0} (g : A → Option B) (now : P → A) (xs : List P) (i : ℕ) (x : P) → i < length xs → x ≡ get_or xs i x → filter_map g (map now (take (i + 1) xs)) ≡ filter_map g (map now (take i xs)) ++ cons_option (g (now x)) []
+filter_map-mapped g now xs i x lt e = ap (filter_map g) (map-more now xs i x lt e) ∙ filter_map-append g (map now (take i xs)) (now x ∷ [])

@@ -1,16 +1,23 @@
--- The parts of an answer put together.
-use Rattle.std.proofs.Common.{◌≡◌, ℕ, Bool, List, [], Option, None, Some, sym, ap, ◌∙◌}
-use Rattle.std.specs.List.{fold}
+-- Sections that are read again between their first and their last reading change no part of the answer.
+use Rattle.std.proofs.Common.{◌≡◌, ℕ, ◌+◌, ◌<◌, Bool, List, [], ◌∷◌, ◌++◌, length, map, take, get_or, Option, None, Some, Result, sym, ap, ◌∙◌}
+use Rattle.std.specs.List.{fold, flat_map, filter_map}
+use Rattle.std.proofs.lemmas.List.{append-nil, map-append}
+use Rattle.std.proofs.lemmas.List.Concat.{flat_map-cons}
+use Rattle.std.proofs.lemmas.List.Elements.{filter_map-append}
+use Rattle.std.proofs.lemmas.Grind.{flat_map-append}
 use Rattle.std.specs.Prelude.{codes}
-use Rattle.inf_file.specs.Sections.{Line, Section, lines_at, lines_named}
-use Rattle.inf_file.specs.Strings.{Strings}
+use Rattle.inf_file.specs.Sections.{Line, Section, place_named, lines_at, lines_named}
+use Rattle.inf_file.specs.Strings.{Strings, replaced, line_lacks}
 use Rattle.inf_file.specs.Models.{model_of, install_place}
-use Rattle.inf_file.specs.Rows.{params_of}
-use Rattle.inf_file.specs.Parameters.{reg_lines, lower, least_number, lines_read, answer, of_lines, of_install, of_model, of_strings}
+use Rattle.inf_file.specs.Rows.{is_bad, params_of}
+use Rattle.inf_file.specs.Earliest.{earlier_if, earliest}
+use Rattle.inf_file.specs.Parameters.{named_places, reg_places, lines_of_all, lines_read, unless_bad, unless_lacking, of_rows, of_lines, of_install, of_model, of_strings}
 use Rattle.inf_file.specs.Repeats.{thinned}
-use Rattle.inf_file.proofs.ListLemmas.{fold-filter, fold-all}
+use Rattle.inf_file.specs.declared.param.Param.{Param}
+use Rattle.inf_file.specs.declared.param.ParamRefusal.{ParamRefusal}
+use Rattle.inf_file.proofs.ListLemmas.{take_item, fold-all}
 use Rattle.inf_file.proofs.RepeatFolds.{fold-thinned}
-use Rattle.inf_file.proofs.RepeatLaws.{lower_if, lower_if-once, lower_if-still}
+use Rattle.inf_file.proofs.RepeatLaws.{earlier_if-once, earlier_if-still}
 use Rattle.inf_file.proofs.SetLaws.{params_of-thinned}
 
 pub of_strings-lines : (s : Strings) (ss : List Section) (id : List ℕ) (makers : List Line) (model : Line) (install : ℕ) (lines : List Line) → makers ≡ lines_named (codes "Manufacturer") ss
@@ -19,31 +26,38 @@ of_strings-lines s ss id makers model install lines m p q l =
     ap (of_lines s ss makers model) l ∙ ap (of_install s ss makers model) (sym q) ∙ ap (of_model s ss makers) (sym p)
     ∙ ap (λ (ms : List Line). of_model s ss ms (model_of s ss ms id)) m
 
-module _ (s : Strings) (ss : List Section) (places : List ℕ) where
-  least-thinned : (test : Line → Bool) (b : Option ℕ) → fold (lower_if test) b (reg_lines ss (thinned [] places)) ≡ fold (lower_if test) b (reg_lines ss places)
-  least-thinned test b = fold-thinned (lower_if test) (lower_if-once test) (lower_if-still test) (lines_at ss) b places
+module _ (ss : List Section) (places : List ℕ) where
+  fold-once : (test : Line → Bool) (b : Option Line) → fold (earlier_if test) b (lines_of_all ss (thinned [] places)) ≡ fold (earlier_if test) b (lines_of_all ss places)
+  fold-once test b = fold-thinned (earlier_if test) (earlier_if-once test) (earlier_if-still test) (lines_at ss) b places
 
-  bad-thinned : (test : Line → Bool) → least_number test (reg_lines ss (thinned [] places)) ≡ least_number test (reg_lines ss places)
-  unfolding least_number
-  bad-thinned test = sym (fold-filter lower test None (reg_lines ss (thinned [] places))) ∙ least-thinned test None ∙ fold-filter lower test None (reg_lines ss places)
+  pub earliest-thinned : (test : Line → Bool) → earliest test (lines_of_all ss (thinned [] places)) ≡ earliest test (lines_of_all ss places)
+  unfolding earliest
+  earliest-thinned test = fold-once test None
 
-  read-least : (test : Line → Bool) (makers : List Line) (model : Line) (ds rows : List Line)
-      → least_number test (lines_read makers model ds rows) ≡ fold (lower_if test) (fold (lower_if test) (lower_if test (fold (lower_if test) None makers) model) ds) rows
-  unfolding least_number
-  read-least test makers model ds rows = sym (fold-filter lower test None (lines_read makers model ds rows)) ∙ fold-all (lower_if test) None makers model ds rows
+  read-thinned : (test : Line → Bool) (makers : List Line) (model : Line) (ds : List Line) → earliest test (lines_read makers model ds (lines_of_all ss (thinned [] places))) ≡ earliest test (lines_read makers model ds (lines_of_all ss places))
+  unfolding earliest
+  read-thinned test makers model ds =
+      let f = earlier_if test in
+      fold-all f None makers model ds (lines_of_all ss (thinned [] places)) ∙ fold-once test (fold f (f (fold f None makers) model) ds) ∙ sym (fold-all f None makers model ds (lines_of_all ss places))
 
-  lacking-thinned : (test : Line → Bool) (makers : List Line) (model : Line) (ds : List Line)
-      → least_number test (lines_read makers model ds (reg_lines ss (thinned [] places))) ≡ least_number test (lines_read makers model ds (reg_lines ss places))
-  lacking-thinned test makers model ds =
-      read-least test makers model ds (reg_lines ss (thinned [] places))
-      ∙ least-thinned test (fold (lower_if test) (lower_if test (fold (lower_if test) None makers) model) ds)
-      ∙ sym (read-least test makers model ds (reg_lines ss places))
+  pub rows-thinned : (s : Strings) (makers : List Line) (model : Line) (ds : List Line)
+      → of_rows s (lines_read makers model ds (lines_of_all ss (thinned [] places))) (lines_of_all ss (thinned [] places)) ≡ of_rows s (lines_read makers model ds (lines_of_all ss places)) (lines_of_all ss places)
+  rows-thinned s makers model ds =
+      let fewer = lines_of_all ss (thinned [] places) in
+      let all = lines_of_all ss places in
+      ap (λ (o : Option Line). unless_lacking o (unless_bad (earliest (is_bad s) fewer) (params_of s fewer))) (read-thinned (line_lacks s) makers model ds)
+      ∙ ap (λ (o : Option Line). unless_lacking (earliest (line_lacks s) (lines_read makers model ds all)) (unless_bad o (params_of s fewer))) (earliest-thinned (is_bad s))
+      ∙ ap (λ (ps : List Param). unless_lacking (earliest (line_lacks s) (lines_read makers model ds all)) (unless_bad (earliest (is_bad s) all) ps)) (params_of-thinned s (lines_at ss) places)
 
-  -- sections that are read again between their first and their last reading change no part of the answer
-  pub answer-thinned : (lacks bad : Line → Bool) (makers : List Line) (model : Line) (ds : List Line)
-      → answer (least_number lacks (lines_read makers model ds (reg_lines ss (thinned [] places)))) (least_number bad (reg_lines ss (thinned [] places))) (params_of s (reg_lines ss (thinned [] places)))
-      ≡ answer (least_number lacks (lines_read makers model ds (reg_lines ss places))) (least_number bad (reg_lines ss places)) (params_of s (reg_lines ss places))
-  answer-thinned lacks bad makers model ds =
-      ap (λ (n : Option ℕ). answer n (least_number bad (reg_lines ss (thinned [] places))) (params_of s (reg_lines ss (thinned [] places)))) (lacking-thinned lacks makers model ds)
-      ∙ ap (λ (n : Option ℕ). answer (least_number lacks (lines_read makers model ds (reg_lines ss places))) n (params_of s (reg_lines ss (thinned [] places)))) (bad-thinned bad)
-      ∙ ap (answer (least_number lacks (lines_read makers model ds (reg_lines ss places))) (least_number bad (reg_lines ss places))) (params_of-thinned s (lines_at ss) places)
+-- the sections of one directive more
+pub places-more : {A : Type 0} (now : A → Line) (s : Strings) (ss : List Section) (ds : List A) (i : ℕ) (d : A) (values : List (List ℕ)) (places next : List ℕ) → i < length ds → d ≡ get_or ds i d → values ≡ (now d).values
+    → next ≡ places ++ named_places s ss values → places ≡ reg_places s ss (map now (take i ds)) → next ≡ reg_places s ss (map now (take (i + 1) ds))
+unfolding named_places
+places-more now s ss ds i d values places next lt e v n p =
+    let f = λ (value : List ℕ). place_named (replaced s value) ss in
+    let all = λ (ls : List Line). flat_map (λ (line : Line). line.values) ls in
+    let so_far = map now (take i ds) in
+    let last : all (now d ∷ []) ≡ (now d).values = flat_map-cons (λ (line : Line). line.values) (now d) [] ∙ append-nil (now d).values in
+    n ∙ ap (λ (xs : List (List ℕ)). places ++ filter_map f xs) (v ∙ sym last) ∙ ap (λ (ps : List ℕ). ps ++ filter_map f (all (now d ∷ []))) p
+    ∙ sym (filter_map-append f (all so_far) (all (now d ∷ []))) ∙ ap (filter_map f) (sym (flat_map-append (λ (line : Line). line.values) so_far (now d ∷ [])))
+    ∙ ap (λ (ls : List Line). filter_map f (all ls)) (sym (map-append now (take i ds) (d ∷ [])) ∙ ap (map now) (sym (take_item ds i d lt e)))

@@ -1,13 +1,13 @@
 -- Joined lines, one after the other.
-use Rattle.std.proofs.Common.{◌≡◌, ℕ, zero, suc, ◌+◌, ◌<◌, ◌≤◌, true, false, ltb, inl, inr, ◌⊎◌, List, [], ◌∷◌, length, drop, get_or, None, Result, Ok, Err, refl, sym, ap, ◌∙◌, subst, arith, drop-cons, add-one}
+use Rattle.std.proofs.Common.{◌≡◌, ◌≢◌, ℕ, zero, suc, ◌+◌, ◌<◌, ◌≤◌, true, false, ltb, inl, inr, ◌⊎◌, List, [], ◌∷◌, length, drop, get_or, Option, None, Some, Result, Ok, Err, refl, sym, ap, ◌∙◌, subst, arith, drop-cons, add-one}
 use Rattle.std.proofs.Math.ListN.{drop_of_length-le}
 use Rattle.std.specs.Str.Lines.{lines}
 use Rattle.std.proofs.lemmas.Bool.Decides.{nat_tests}
 use Rattle.inf_file.specs.declared.joining.Joined.{Joined}
 use Rattle.inf_file.specs.declared.refusal.InfRefusal.{InfRefusal}
-use Rattle.inf_file.specs.declared.refusal.InfRefusal.TheVariants.{OutOfMemory, TooLong, BadText, Line as BadLine}
-use Rattle.inf_file.specs.Outcome.{◌>>=◌, Fails, Gives}
-use Rattle.inf_file.specs.Characters.{characters}
+use Rattle.inf_file.specs.declared.refusal.InfRefusal.TheVariants.{OutOfMemory, TooLong, BadText}
+use Rattle.nd_base.specs.Results.{◌>>=◌, Gives}
+use Rattle.inf_file.specs.Characters.{bad_byte, text_of, unless_bad, characters}
 use Rattle.inf_file.specs.Joining.{joined}
 use Rattle.inf_file.specs.Sections.{Line, Section, with_line}
 use Rattle.inf_file.specs.Reading.{Front, with_joined, with_all, sections_of_lines, sections_of}
@@ -33,19 +33,13 @@ pub lines_end : (front : Front) (ls : List Joined) (i : ℕ) → length ls ≤ i
 unfolding with_all
 lines_end front ls i h = ap (with_all front) (drop_of_length-le ls h)
 
-pub fails_along : {X Y : Type 0} (e : InfRefusal) (r : Result X InfRefusal) (s : Result Y InfRefusal) → ((d : InfRefusal) → r ≡ Err d → s ≡ Err d) → Fails e r → Fails e s
-fails_along OutOfMemory r s f h = tt
-fails_along TooLong r s f h = f TooLong h
-fails_along (BadText at) r s f h = f (BadText at) h
-fails_along (BadLine n) r s f h = f (BadLine n) h
-
 -- the sections where all lines are taken
 abbrev pub all_sections : Result Front InfRefusal → Result (List Section) InfRefusal
 all_sections r = r >>= λ front. Ok front.sections
 
-pub bad_line : (e : InfRefusal) (front : Front) (ls : List Joined) (i : ℕ) (line : Joined) → i < length ls → line ≡ get_or ls i line → Fails e (with_joined front line)
-    → with_all front (drop i ls) ≡ with_all (record { sections = []; place = None }) ls → Fails e (sections_of_lines ls)
-bad_line e front ls i line h is fails so_far = fails_along e (with_joined front line) (sections_of_lines ls) (λ d one. ap all_sections (sym so_far ∙ line_bad front ls i line d h is one)) fails
+pub bad_line : (e : InfRefusal) (front : Front) (ls : List Joined) (i : ℕ) (line : Joined) → i < length ls → line ≡ get_or ls i line → (e ≢ OutOfMemory → with_joined front line ≡ Err e)
+    → with_all front (drop i ls) ≡ with_all (record { sections = []; place = None }) ls → e ≢ OutOfMemory → sections_of_lines ls ≡ Err e
+bad_line e front ls i line h is fails so_far no_want = ap all_sections (sym so_far ∙ line_bad front ls i line e h is (fails no_want))
 
 pub all_taken : (front : Front) (ls : List Joined) (i : ℕ) → length ls ≤ i → with_all front (drop i ls) ≡ with_all (record { sections = []; place = None }) ls → sections_of_lines ls ≡ Ok front.sections
 all_taken front ls i h so_far = ap all_sections (sym so_far ∙ lines_end front ls i h)
@@ -54,7 +48,7 @@ pub too_long : (bytes : List ℕ) → 1048576 < length bytes → sections_of byt
 unfolding sections_of
 too_long bytes h = let on : ltb 1048576 (length bytes) ≡ true = search (arith, nat_tests) in rw on refl
 
-pub bad_text : (bytes : List ℕ) (e : InfRefusal) → length bytes ≤ 1048576 → characters bytes ≡ Err e → sections_of bytes ≡ Err e
+bad_text : (bytes : List ℕ) (e : InfRefusal) → length bytes ≤ 1048576 → characters bytes ≡ Err e → sections_of bytes ≡ Err e
 unfolding sections_of
 bad_text bytes e h bad = let off : ltb 1048576 (length bytes) ≡ false = search (arith, nat_tests) in rw (off, bad) refl
 
@@ -62,17 +56,14 @@ pub read_on : (bytes text : List ℕ) → length bytes ≤ 1048576 → character
 unfolding sections_of
 read_on bytes text h good = let off : ltb 1048576 (length bytes) ≡ false = search (arith, nat_tests) in rw (off, good) refl
 
-pub bad_text_fails : (bytes : List ℕ) (e : InfRefusal) → length bytes ≤ 1048576 → Fails e (characters bytes) → Fails e (sections_of bytes)
-bad_text_fails bytes e h bad = fails_along e (characters bytes) (sections_of bytes) (λ d one. bad_text bytes d h one) bad
+pub bad_byte_there : (bytes : List ℕ) (at : ℕ) → length bytes ≤ 1048576 → Some at ≡ bad_byte bytes → sections_of bytes ≡ Err (BadText at)
+bad_byte_there bytes at h is = bad_text bytes (BadText at) h (ap (λ (o : Option ℕ). unless_bad o (text_of bytes)) (sym is))
+
+pub all_good : (bytes : List ℕ) → None ≡ bad_byte bytes → characters bytes ≡ Ok (text_of bytes)
+all_good bytes is = ap (λ (o : Option ℕ). unless_bad o (text_of bytes)) (sym is)
 
 pub all_given : (bytes text read : List ℕ) (ls given : List Joined) (r : Result (List Section) InfRefusal) → length bytes ≤ 1048576 → characters bytes ≡ Ok text → read ≡ text → ls ≡ joined 1 1 [] (lines read) → given ≡ ls
-    → Gives (λ i. i) r (sections_of_lines given) → Gives (λ i. i) r (sections_of bytes)
+    → Gives OutOfMemory (λ i. i) r (sections_of_lines given) → Gives OutOfMemory (λ i. i) r (sections_of bytes)
 all_given bytes text read ls given r h good same is all gives =
     let e : sections_of_lines given ≡ sections_of bytes = ap sections_of_lines (all ∙ is ∙ ap (λ (cs : List ℕ). joined 1 1 [] (lines cs)) same) ∙ sym (read_on bytes text h good) in
-    subst (λ (s : Result (List Section) InfRefusal). Gives (λ i. i) r s) e gives
-
-pub is_refused : (r : Result (List Section) InfRefusal) (e : InfRefusal) (s : Result (List Section) InfRefusal) → Fails e s → (e ≡ OutOfMemory) ⊎ (s ≡ Err e)
-is_refused r OutOfMemory s f = inl refl
-is_refused r TooLong s f = inr f
-is_refused r (BadText at) s f = inr f
-is_refused r (BadLine n) s f = inr f
+    subst (λ (s : Result (List Section) InfRefusal). Gives OutOfMemory (λ i. i) r s) e gives

@@ -1,46 +1,13 @@
 -- What lines do to a result when they are taken again.
-use Rattle.std.proofs.Common.{inl, inr, ◌≡◌, ℕ, ◌≤◌, Bool, false, ltb, List, [], ◌∷◌, Option, None, Some, refl, sym, ap, ◌∙◌, arith, true≢false}
-use Rattle.std.specs.Prelude.{if◌then◌else◌}
+use Rattle.std.proofs.Common.{inl, inr, ◌≡◌, ◌≤◌, Bool, false, ltb, List, [], ◌∷◌, Option, None, Some, refl, sym, ap, ◌∙◌, arith, true≢false}
 use Rattle.std.proofs.lemmas.Bool.{cases_Bool}
 use Rattle.std.proofs.lemmas.Bool.Decides.{nat_tests}
 use Rattle.inf_file.specs.Sections.{Line}
-use Rattle.inf_file.specs.Strings.{Strings}
-use Rattle.inf_file.specs.Models.{has_id, earlier, earlier_with_id}
+use Rattle.inf_file.specs.Earliest.{earlier, earlier_if}
 use Rattle.inf_file.specs.Rows.{with_default}
-use Rattle.inf_file.specs.Parameters.{lower}
 use Rattle.inf_file.specs.declared.param.Param.{Param}
 use Rattle.inf_file.proofs.FoldLemmas.{is_same-all}
 use Rattle.inf_file.proofs.ParamLemmas.{has_name}
-
-lower-once : (b : Option ℕ) (x : Line) → lower (lower b x) x ≡ lower b x
-lower-once None x = elim (cases_Bool (ltb x.number x.number)) [ inl on ↦ rw on refl | inr off ↦ rw off refl ]
-lower-once (Some k) x = elim (cases_Bool (ltb x.number k)) [
-  | inl on ↦ rw on (elim (cases_Bool (ltb x.number x.number)) [ inl on2 ↦ rw on2 refl | inr off ↦ rw off refl ])
-  | inr off ↦ rw off (rw off refl)
-]
-
-lower-still : (b : Option ℕ) (x y : Line) → lower b x ≡ b → lower (lower b y) x ≡ lower b y
-lower-still None x y h = absurd cc
-lower-still (Some k) x y h = elim (cases_Bool (ltb x.number k)) [
-  | inl on ↦ let h2 = rw on at h in let e : x.number ≡ k = cc in let no : ltb x.number k ≡ false = search (arith, nat_tests) in absurd (true≢false (sym on ∙ no))
-  | inr off ↦ elim (cases_Bool (ltb y.number k)) [
-    | inl on ↦ let lt : y.number ≤ x.number = grind (arith, nat_tests) in let no : ltb x.number y.number ≡ false = search (arith, nat_tests) in rw on (rw no refl)
-    | inr off2 ↦ rw off2 (rw off refl)
-  ]
-]
-
-module _ (test : Line → Bool) where
-  abbrev pub lower_if : Option ℕ → Line → Option ℕ
-  lower_if b x = if test x then lower b x else b
-
-  pub lower_if-once : (b : Option ℕ) (x : Line) → lower_if (lower_if b x) x ≡ lower_if b x
-  lower_if-once b x = elim (cases_Bool (test x)) [ inl on ↦ rw on (lower-once b x) | inr off ↦ rw off refl ]
-
-  pub lower_if-still : (b : Option ℕ) (x y : Line) → lower_if b x ≡ b → lower_if (lower_if b y) x ≡ lower_if b y
-  lower_if-still b x y h = elim (cases_Bool (test x)) [
-    | inl on ↦ let h2 = rw on at h in elim (cases_Bool (test y)) [ inl on2 ↦ rw (on, on2) (lower-still b x y h2) | inr off ↦ rw (on, off) h2 ]
-    | inr off ↦ rw off refl
-  ]
 
 earlier-once : (b : Option Line) (x : Line) → earlier (earlier b x) x ≡ earlier b x
 earlier-once None x = elim (cases_Bool (ltb x.number x.number)) [ inl on ↦ rw on refl | inr off ↦ rw off refl ]
@@ -59,15 +26,13 @@ earlier-still (Some k) x y h = elim (cases_Bool (ltb x.number k.number)) [
   ]
 ]
 
-module _ (s : Strings) (id : List ℕ) where
-  pub earlier_with_id-once : (b : Option Line) (x : Line) → earlier_with_id s id (earlier_with_id s id b x) x ≡ earlier_with_id s id b x
-  unfolding earlier_with_id
-  earlier_with_id-once b x = elim (cases_Bool (has_id s id x)) [ inl on ↦ rw on (earlier-once b x) | inr off ↦ rw off refl ]
+module _ (test : Line → Bool) where
+  pub earlier_if-once : (b : Option Line) (x : Line) → earlier_if test (earlier_if test b x) x ≡ earlier_if test b x
+  earlier_if-once b x = elim (cases_Bool (test x)) [ inl on ↦ rw on (earlier-once b x) | inr off ↦ rw off refl ]
 
-  pub earlier_with_id-still : (b : Option Line) (x y : Line) → earlier_with_id s id b x ≡ b → earlier_with_id s id (earlier_with_id s id b y) x ≡ earlier_with_id s id b y
-  unfolding earlier_with_id
-  earlier_with_id-still b x y h = elim (cases_Bool (has_id s id x)) [
-    | inl on ↦ let h2 = rw on at h in elim (cases_Bool (has_id s id y)) [ inl on2 ↦ rw (on, on2) (earlier-still b x y h2) | inr off ↦ rw (on, off) h2 ]
+  pub earlier_if-still : (b : Option Line) (x y : Line) → earlier_if test b x ≡ b → earlier_if test (earlier_if test b y) x ≡ earlier_if test b y
+  earlier_if-still b x y h = elim (cases_Bool (test x)) [
+    | inl on ↦ let h2 = rw on at h in elim (cases_Bool (test y)) [ inl on2 ↦ rw (on, on2) (earlier-still b x y h2) | inr off ↦ rw (on, off) h2 ]
     | inr off ↦ rw off refl
   ]
 

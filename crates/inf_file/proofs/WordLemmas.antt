@@ -1,15 +1,14 @@
 -- Texts in quotes and words without them, with blanks around.
-use Rattle.std.proofs.Common.{inl, inr, ◌≡◌, ◌≢◌, ◌⊎◌, ℕ, suc, ◌+◌, ◌-◌, Bool, true, false, eqb, List, [], ◌∷◌, ◌++◌, length, map, refl, sym, ap, ◌∙◌, subst, arith, append_assoc, length-append, true≢false}
+use Rattle.std.proofs.Common.{inl, inr, ◌≡◌, ◌≢◌, ◌⊎◌, ℕ, suc, ◌+◌, ◌-◌, ◌≤◌, Bool, true, false, eqb, List, [], ◌∷◌, ◌++◌, length, map, refl, sym, ap, ◌∙◌, subst, arith, append_assoc, length-append, true≢false}
 use Rattle.std.specs.List.{AllByRecursion, onto_first}
 use Rattle.std.proofs.lemmas.Bool.{cases_Bool, eqb-true, ne_eqb}
 use Rattle.std.proofs.lemmas.List.{append-nil}
 use Rattle.inf_file.specs.Quotes.{is_blank, turned, is_open, front_len, trimmed_start, trimmed_end, resolved_behind, value, parts, values}
 use Rattle.inf_file.specs.Joining.{last_of}
-use Rattle.inf_file.specs.Written.{quoted, doubled, HasNoFeed}
-use Rattle.inf_file.specs.Layout.{Setting, AreBlanks, IsNoBlank, IsSetting, IsWord, needs_quotes, spelled, spaced, spaced_values}
+use Rattle.inf_file.specs.Layout.{quoted, doubled, HasNoFeed, Setting, AreBlanks, IsNoBlank, IsSetting, IsWord, HasNoEquals, needs_quotes, spelled, spaced, spaced_values}
 use Rattle.inf_file.proofs.QuoteLoops.{end_other}
-use Rattle.inf_file.proofs.WrittenLines.{quoted_more, open_quoted, front_quoted, parts_quoted, no_parts, parts_comma}
-use Rattle.inf_file.proofs.WrittenFiles.{feeds-append, feeds-quoted}
+use Rattle.inf_file.proofs.QuotedLemmas.{quoted_more, open_quoted, front_quoted, parts_quoted, no_parts, parts_comma, front_most, mark_here}
+use Rattle.inf_file.proofs.FeedLemmas.{feeds-append, feeds-quoted}
 use Rattle.inf_file.proofs.BlankLemmas.{open_blanks, front_blanks, parts_blanks, start_blanks, end_blanks, value_blanks, value_behind}
 
 abbrev ArePlain : List ℕ → Type 0
@@ -31,12 +30,24 @@ unfolding is_open
 open_word [] more h = refl
 open_word (c ∷ cs) more h = ap (λ (now : Bool). is_open now (cs ++ more)) (plain_turned c h.0) ∙ open_word cs more h.1
 
-front_word : (mark : ℕ) (v more : List ℕ) → needs_quotes mark ≡ true → ArePlain v → front_len mark false (v ++ more) ≡ length v + front_len mark false more
+-- a mark that a text does not hold
+abbrev pub Lacks : ℕ → List ℕ → Type 0
+Lacks mark v = AllByRecursion (λ c. eqb c mark ≡ false) v
+
+lacks_mark : (mark : ℕ) (v : List ℕ) → needs_quotes mark ≡ true → ArePlain v → Lacks mark v
+lacks_mark mark [] m h = tt
+lacks_mark mark (c ∷ cs) m h = (plain_not c mark h.0 m, lacks_mark mark cs m h.1)
+
+pub lacks_equals : (v : List ℕ) → HasNoEquals v → Lacks 61 v
+lacks_equals [] h = tt
+lacks_equals (c ∷ cs) h = (ne_eqb c 61 h.0, lacks_equals cs h.1)
+
+front_word : (mark : ℕ) (v more : List ℕ) → Lacks mark v → ArePlain v → front_len mark false (v ++ more) ≡ length v + front_len mark false more
 unfolding front_len
 front_word mark [] more m h = omega arith
 front_word mark (c ∷ cs) more m h =
     let on : front_len mark (turned false c) (cs ++ more) ≡ front_len mark false (cs ++ more) = ap (λ (now : Bool). front_len mark now (cs ++ more)) (plain_turned c h.0) in
-    rw (plain_not c mark h.0 m) (omega (arith, on, front_word mark cs more m h.1))
+    rw m.0 (omega (arith, on, front_word mark cs more m.1 h.1))
 
 parts_word : (v more p : List ℕ) (ps : List (List ℕ)) → ArePlain v → parts false more ≡ p ∷ ps → parts false (v ++ more) ≡ (v ++ p) ∷ ps
 unfolding parts
@@ -124,9 +135,9 @@ module _ (v : List ℕ) where
   open_spelled true more w = open_word v more w.plain
   open_spelled false more w = open_quoted v more
 
-  front_spelled : (b : Bool) (mark : ℕ) (more : List ℕ) → Fits b v → eqb 34 mark ≡ false → needs_quotes mark ≡ true → front_len mark false (spelled b v ++ more) ≡ length (spelled b v) + front_len mark false more
+  front_spelled : (b : Bool) (mark : ℕ) (more : List ℕ) → Fits b v → eqb 34 mark ≡ false → (b ≡ true → Lacks mark v) → front_len mark false (spelled b v ++ more) ≡ length (spelled b v) + front_len mark false more
   unfolding Fits
-  front_spelled true mark more w ne m = front_word mark v more m w.plain
+  front_spelled true mark more w ne m = front_word mark v more (m refl) w.plain
   front_spelled false mark more w ne m = front_quoted mark v more ne
 
   parts_spelled : (b : Bool) (more p : List ℕ) (ps : List (List ℕ)) → Fits b v → parts false more ≡ p ∷ ps → parts false (spelled b v ++ more) ≡ (spelled b v ++ p) ∷ ps
@@ -191,14 +202,17 @@ module _ (s : Setting) (is : IsSetting s) where
   pub open_spaced : (v more : List ℕ) → is_open false (spaced s v ++ more) ≡ is_open false more
   open_spaced v more = ap (is_open false) (spaced_more v more) ∙ open_blanks false s.before _ is.before ∙ open_behind v more
 
-  pub front_behind : (mark : ℕ) (v more : List ℕ) → eqb 34 mark ≡ false → is_blank mark ≡ false → needs_quotes mark ≡ true
+  front_behind : (mark : ℕ) (v more : List ℕ) → eqb 34 mark ≡ false → is_blank mark ≡ false → (s.bare v ≡ true → Lacks mark v)
       → front_len mark false (spelled (s.bare v) v ++ (s.behind ++ more)) ≡ length (spelled (s.bare v) v ++ s.behind) + front_len mark false more
   front_behind mark v more ne nb m = omega (arith, front_spelled v (s.bare v) mark (s.behind ++ more) (fits_in v) ne m, front_blanks mark s.behind more nb is.behind, length-append (spelled (s.bare v) v) s.behind)
 
-  pub front_spaced : (mark : ℕ) (v more : List ℕ) → eqb 34 mark ≡ false → is_blank mark ≡ false → needs_quotes mark ≡ true → front_len mark false (spaced s v ++ more) ≡ length (spaced s v) + front_len mark false more
-  front_spaced mark v more ne nb m =
+  pub front_free : (mark : ℕ) (v more : List ℕ) → eqb 34 mark ≡ false → is_blank mark ≡ false → (s.bare v ≡ true → Lacks mark v) → front_len mark false (spaced s v ++ more) ≡ length (spaced s v) + front_len mark false more
+  front_free mark v more ne nb m =
       ap (front_len mark false) (spaced_more v more)
       ∙ omega (arith, front_blanks mark s.before (spelled (s.bare v) v ++ (s.behind ++ more)) nb is.before, front_behind mark v more ne nb m, length-append s.before (spelled (s.bare v) v ++ s.behind))
+
+  pub front_spaced : (mark : ℕ) (v more : List ℕ) → eqb 34 mark ≡ false → is_blank mark ≡ false → needs_quotes mark ≡ true → front_len mark false (spaced s v ++ more) ≡ length (spaced s v) + front_len mark false more
+  front_spaced mark v more ne nb m = front_free mark v more ne nb (λ b. lacks_mark mark v m (is.bare v b).plain)
 
   parts_spaced : (v more p : List ℕ) (ps : List (List ℕ)) → parts false more ≡ p ∷ ps → parts false (spaced s v ++ more) ≡ (spaced s v ++ p) ∷ ps
   parts_spaced v more p ps h =
@@ -248,6 +262,20 @@ module _ (settings : ℕ → Setting) (are : (n : ℕ) → IsSetting (settings n
   front_spaced_values mark (v ∷ []) n ne nc nb m = ap (front_len mark false) (sym (append-nil (spaced (settings n) v))) ∙ front_spaced (settings n) (are n) mark v [] ne nb m ∙ omega arith
   front_spaced_values mark (v ∷ w ∷ vs) n ne nc nb m =
       front_spaced (settings n) (are n) mark v (44 ∷ spaced_values settings (n + 1) (w ∷ vs)) ne nb m ∙ rw nc (omega (arith, front_spaced_values mark (w ∷ vs) (n + 1) ne nc nb m, length-append (spaced (settings n) v) (44 ∷ spaced_values settings (n + 1) (w ∷ vs))))
+
+  -- no first value without quotes holds an `=`, so none stands in front of the first comma
+  pub equals_behind : (vs : List (List ℕ)) (n : ℕ) → ((text : List ℕ) → (settings n).bare text ≡ true → HasNoEquals text) → front_len 44 false (spaced_values settings n vs) ≤ front_len 61 false (spaced_values settings n vs)
+  unfolding spaced_values front_len
+  equals_behind [] n h = omega arith
+  equals_behind (v ∷ []) n h =
+      let cs = spaced (settings n) v in
+      let whole : front_len 61 false cs ≡ length cs = ap (front_len 61 false) (sym (append-nil cs)) ∙ front_free (settings n) (are n) 61 v [] refl refl (λ b. lacks_equals v (h v b)) ∙ omega arith in
+      omega (arith, whole, front_most 44 false cs)
+  equals_behind (v ∷ w ∷ vs) n h =
+      let more = 44 ∷ spaced_values settings (n + 1) (w ∷ vs) in
+      let comma : front_len 44 false (spaced (settings n) v ++ more) ≡ length (spaced (settings n) v) + front_len 44 false more = front_spaced (settings n) (are n) 44 v more refl refl refl in
+      let equals : front_len 61 false (spaced (settings n) v ++ more) ≡ length (spaced (settings n) v) + front_len 61 false more = front_free (settings n) (are n) 61 v more refl refl (λ b. lacks_equals v (h v b)) in
+      omega (arith, comma, equals, mark_here 44 (spaced_values settings (n + 1) (w ∷ vs)))
 
   pub trimmed_values : (vs : List (List ℕ)) (n : ℕ) → vs ≢ [] → (AreBlanks (spaced_values settings n vs) → ⊥) → Trimmed (spaced_values settings n vs)
   unfolding spaced_values

@@ -1,11 +1,12 @@
 -- The parameters of a hardware id, name by name (Windows Driver Kit, "INF AddReg Directive"): which rows give it parameters,
 -- and which of them gives a name its value.
-use Rattle.std.specs.Prelude.{codes, ℕ, not, List, [], ◌∷◌, filter, map, Option}
-use Rattle.std.specs.List.{filter_map, flat_map, find}
+use Rattle.std.specs.Prelude.{codes, ℕ, Bool, not, List, [], ◌∷◌, filter, map, Option}
+use Rattle.std.specs.List.{filter_map, find}
 use Rattle.std.specs.Option.{option_map, option_and_then}
-use Rattle.inf_file.specs.Sections.{Line, Section, is_same, lines_named, lines_at_some, has_key}
-use Rattle.inf_file.specs.Strings.{Strings, strings_of, replaced}
-use Rattle.inf_file.specs.Models.{model_of, install_place}
+use Rattle.inf_file.specs.Sections.{Line, Section, is_same, lines_named, lines_at_some}
+use Rattle.inf_file.specs.Strings.{Strings, strings_of}
+use Rattle.inf_file.specs.Models.{models, has_id, model_of, install_place}
+use Rattle.inf_file.specs.Parameters.{directives_of, rows_named}
 use Rattle.inf_file.specs.Rows.{saying, set_by, given_default}
 use Rattle.inf_file.specs.declared.param.Param.{Param}
 use Rattle.inf_file.specs.declared.param.ParamValue.{ParamValue}
@@ -13,7 +14,13 @@ use Rattle.inf_file.specs.declared.param.ParamValue.{ParamValue}
 abbrev pub strings_in : List Section → Strings
 strings_in sections = strings_of (lines_named (codes "Strings") sections)
 
--- the model line of a hardware id, and the place of its install section
+-- the model lines of all manufacturers, those that list a hardware id, the first of them, and the place of its install section
+abbrev pub models_in : List Section → List Line
+models_in sections = models (strings_in sections) sections (lines_named (codes "Manufacturer") sections)
+
+abbrev pub lists_id : List Section → List ℕ → Line → Bool
+lists_id sections id model = has_id (strings_in sections) id model
+
 abbrev pub model_in : List Section → List ℕ → Option Line
 model_in sections id = model_of (strings_in sections) sections (lines_named (codes "Manufacturer") sections) id
 
@@ -22,11 +29,11 @@ install_of sections id = option_and_then (install_place (strings_in sections) se
 
 -- the AddReg lines of the install section
 abbrev pub directives_in : List Section → List ℕ → List Line
-directives_in sections id = filter (has_key (codes "AddReg")) (lines_at_some sections (install_of sections id))
+directives_in sections id = directives_of (lines_at_some sections (install_of sections id))
 
--- the rows of the sections that the values of these lines name, in their order
+-- the rows of the sections that these name
 unfoldable pub rows_of : List Section → List ℕ → List Line
-rows_of sections id = flat_map (λ value. lines_named (replaced (strings_in sections) value) sections) (flat_map (λ line. line.values) (directives_in sections id))
+rows_of sections id = rows_named (strings_in sections) sections (directives_in sections id)
 
 -- the parameters that these rows set, a name as often as rows set it
 abbrev pub set_by_rows : List Section → List ℕ → List Param

@@ -1,6 +1,7 @@
 -- The characters of a file. Text that begins with the byte order mark FF FE is UTF-16, the low byte of each unit first
 -- (The Unicode Standard, chapter 3, "Unicode Encoding Forms"); of other text each byte is the character of that number.
-use Rattle.std.specs.Prelude.{ℕ, suc, ◌+◌, ◌*◌, ◌%◌, Bool, ◌&&◌, ◌||◌, ◌==◌, not, nat_lt, nat_le, List, [], ◌∷◌, length, drop, Option, Some, None, Result, Ok, Err, slice_index, if◌then◌else◌}
+use Rattle.std.specs.Prelude.{ℕ, suc, ◌+◌, ◌*◌, ◌%◌, ◌≡◌, ◌≤◌, Bool, ◌&&◌, ◌||◌, ◌==◌, not, nat_lt, nat_le, List, [], ◌∷◌, length, drop, Option, Some, None, Result, Ok, Err, slice_index, if◌then◌else◌}
+use Rattle.std.specs.List.{position}
 use Rattle.inf_file.specs.declared.refusal.InfRefusal.{InfRefusal}
 use Rattle.inf_file.specs.declared.refusal.InfRefusal.TheVariants.{BadText}
 
@@ -30,18 +31,30 @@ unfoldable pub first_bad : ℕ → List ℕ → Option ℕ
 first_bad before [] = None
 first_bad before (u ∷ us) = if is_bad before u (slice_index us 0) then Some 0 else one_on (first_bad u us)
 
--- the units of bytes behind the mark
-abbrev pub utf16 : Option ℕ → List ℕ → Result (List ℕ) InfRefusal
-utf16 (Some i) bytes = Err (BadText (2 + 2 * i))
-utf16 None bytes = if length bytes % 2 == 0 then Ok (units bytes) else Err (BadText (1 + length bytes))
-
-abbrev pub each_byte : Option ℕ → List ℕ → Result (List ℕ) InfRefusal
-each_byte (Some i) bytes = Err (BadText i)
-each_byte None bytes = Ok bytes
-
 -- two bytes FF FE stand in front
 abbrev pub has_mark : List ℕ → Bool
 has_mark bytes = (slice_index bytes 0 == 0xff) && (slice_index bytes 1 == 0xfe)
 
+-- the byte of the file at which a bad unit stands, or half of one at the end, where these bytes stand behind the mark
+abbrev pub bad_behind : Option ℕ → List ℕ → Option ℕ
+bad_behind (Some i) bytes = Some (2 + 2 * i)
+bad_behind None bytes = if length bytes % 2 == 0 then None else Some (1 + length bytes)
+
+-- the first byte of a file at which no text stands
+abbrev pub bad_byte : List ℕ → Option ℕ
+bad_byte bytes = if has_mark bytes then bad_behind (first_bad 0 (units (drop 2 bytes))) (drop 2 bytes) else position (λ b. b == 0) bytes
+
+abbrev pub text_of : List ℕ → List ℕ
+text_of bytes = if has_mark bytes then units (drop 2 bytes) else bytes
+
+abbrev pub unless_bad : Option ℕ → List ℕ → Result (List ℕ) InfRefusal
+unless_bad (Some at) text = Err (BadText at)
+unless_bad None text = Ok text
+
 abbrev pub characters : List ℕ → Result (List ℕ) InfRefusal
-characters bytes = if has_mark bytes then utf16 (first_bad 0 (units (drop 2 bytes))) (drop 2 bytes) else each_byte (first_bad 0 bytes) bytes
+characters bytes = unless_bad (bad_byte bytes) (text_of bytes)
+
+-- at most 1 MiB of text
+pub record IsTextFile (bytes : List ℕ) : Type 0 where
+  pub short : length bytes ≤ 1048576
+  pub good : bad_byte bytes ≡ None

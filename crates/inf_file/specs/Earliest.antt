@@ -1,23 +1,33 @@
--- The model line of a hardware id (Windows Driver Kit, "INF Models Section"): of those that list it the first of the file.
-use Rattle.std.specs.Prelude.{◌≡◌, codes, ℕ, Bool, true, false, ◌&&◌, nat_lt, List, Option, None, Some, Contains}
-use Rattle.std.specs.List.{list_any}
-use Rattle.inf_file.specs.Sections.{Line, Section, lines_named}
-use Rattle.inf_file.specs.Models.{models, has_id}
-use Rattle.inf_file.specs.ByName.{strings_in}
+-- The first line of an INF file that passes a test, among lines that may stand in any order and more than once.
+use Rattle.std.specs.Prelude.{◌≡◌, ℕ, Bool, true, false, ◌&&◌, nat_lt, List, Option, None, Some, Contains, if◌then◌else◌}
+use Rattle.std.specs.List.{fold, list_any}
+use Rattle.inf_file.specs.Sections.{Line}
 
--- the model lines of all manufacturers
-abbrev pub models_in : List Section → List Line
-models_in sections = models (strings_in sections) sections (lines_named (codes "Manufacturer") sections)
+-- of two lines the one that stands first in the file
+abbrev pub earlier : Option Line → Line → Option Line
+earlier None line = Some line
+earlier (Some best) line = if nat_lt line.number best.number then Some line else Some best
 
-abbrev pub lists_id : List Section → List ℕ → Line → Bool
-lists_id sections id model = has_id (strings_in sections) id model
+abbrev pub earlier_if : (Line → Bool) → Option Line → Line → Option Line
+earlier_if test best line = if test line then earlier best line else best
 
--- it lists the id, and no model line of a lesser number does
-pub record IsEarliest (sections : List Section) (id : List ℕ) (model : Line) : Type 0 where
-  pub there : Contains (models_in sections) model
-  pub lists : lists_id sections id model ≡ true
-  pub none_before : list_any (λ other. lists_id sections id other && nat_lt other.number model.number) (models_in sections) ≡ false
+unfoldable pub earliest : (Line → Bool) → List Line → Option Line
+earliest test lines = fold (earlier_if test) None lines
 
-abbrev pub IsModel : List Section → List ℕ → Option Line → Type 0
-IsModel sections id None = list_any (lists_id sections id) (models_in sections) ≡ false
-IsModel sections id (Some model) = IsEarliest sections id model
+-- a line among these passes, and none of a lesser number does
+pub record IsEarliest (test : Line → Bool) (lines : List Line) (line : Line) : Type 0 where
+  pub there : Contains lines line
+  pub passes : test line ≡ true
+  pub none_before : list_any (λ other. test other && nat_lt other.number line.number) lines ≡ false
+
+abbrev pub HasNone : (Line → Bool) → List Line → Type 0
+HasNone test lines = list_any test lines ≡ false
+
+-- the first line that passes, and none only where none does
+abbrev pub IsFirst : (Line → Bool) → List Line → Option Line → Type 0
+IsFirst test lines None = HasNone test lines
+IsFirst test lines (Some line) = IsEarliest test lines line
+
+-- the first line that passes has this number
+abbrev pub HasFirst : (Line → Bool) → List Line → ℕ → Type 0
+HasFirst test lines n = (line : Line) × (line.number ≡ n) × IsEarliest test lines line

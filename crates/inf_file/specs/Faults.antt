@@ -1,26 +1,19 @@
 -- The line at fault where a file gives a hardware id no parameters: of all such lines the one with the least number.
-use Rattle.std.specs.Prelude.{◌≡◌, codes, ℕ, Bool, true, false, ◌&&◌, ◌==◌, nat_lt, List, [], ◌∷◌, ◌++◌, Option, None, Some}
-use Rattle.std.specs.List.{list_any}
+use Rattle.std.specs.Prelude.{codes, ℕ, List, [], Option, None, Some}
 use Rattle.inf_file.specs.Sections.{Line, Section, lines_named}
 use Rattle.inf_file.specs.Strings.{line_lacks}
 use Rattle.inf_file.specs.Rows.{is_bad}
+use Rattle.inf_file.specs.Earliest.{HasNone, HasFirst}
+use Rattle.inf_file.specs.Parameters.{lines_read}
 use Rattle.inf_file.specs.ByName.{strings_in, model_in, directives_in, rows_of}
 
--- the lines that are read for a hardware id that has this model line: those of the manufacturers, this one, the AddReg lines and the rows
-abbrev pub lines_with : List Section → List ℕ → List Line → Option Line → List Line
-lines_with sections id rows None = []
-lines_with sections id rows (Some model) = lines_named (codes "Manufacturer") sections ++ model ∷ (directives_in sections id ++ rows)
+-- the lines that are read where this is the model line
+abbrev pub lines_with : List Section → List Line → List Line → Option Line → List Line
+lines_with sections directives rows None = []
+lines_with sections directives rows (Some model) = lines_read (lines_named (codes "Manufacturer") sections) model directives rows
 
 abbrev pub lines_for : List Section → List ℕ → List Line
-lines_for sections id = lines_with sections id (rows_of sections id) (model_in sections id)
-
-abbrev pub HasNone : (Line → Bool) → List Line → Type 0
-HasNone fault lines = list_any fault lines ≡ false
-
--- a line of the number n has the fault, and none of a lesser number has it
-pub record HasFirst (fault : Line → Bool) (lines : List Line) (n : ℕ) : Type 0 where
-  pub there : list_any (λ line. fault line && (line.number == n)) lines ≡ true
-  pub none_before : HasNone (λ line. fault line && nat_lt line.number n) lines
+lines_for sections id = lines_with sections (directives_in sections id) (rows_of sections id) (model_in sections id)
 
 -- no line that is read lacks a string
 abbrev pub LacksNone : List Section → List ℕ → Type 0

@@ -1,13 +1,34 @@
 -- Sections written as an INF file, each in one piece or several, with a layout chosen for each line (Windows DDK, "General Syntax Rules for INF Files").
-use Rattle.std.specs.Prelude.{◌≡◌, ◌≢◌, ◌⊎◌, ℕ, ◌+◌, ◌-◌, nat_eq, Bool, true, false, List, [], ◌∷◌, ◌++◌, length, take, drop, slice_index, Option, Some, None, if◌then◌else◌}
+use Rattle.std.specs.Prelude.{◌≡◌, ◌≢◌, ◌⊎◌, ℕ, ◌+◌, ◌-◌, ◌<◌, ◌==◌, nat_eq, Bool, true, false, List, [], ◌∷◌, ◌++◌, length, take, drop, slice_index, Option, Some, None, if◌then◌else◌}
 use Rattle.std.specs.List.{AllByRecursion, list_any}
 use Rattle.inf_file.specs.Sections.{Line, Section, is_named}
 use Rattle.inf_file.specs.Quotes.{is_open}
-use Rattle.inf_file.specs.Written.{quoted, HasNoFeed, CanBeLine}
 
--- what a text holds only in quotes: a line feed, a carriage return, and the marks " , ; = [ ]
+-- each quotation mark twice
+unfoldable pub doubled : List ℕ → List ℕ
+doubled [] = []
+doubled (c ∷ cs) = if c == 34 then 34 ∷ 34 ∷ doubled cs else c ∷ doubled cs
+
+abbrev pub quoted : List ℕ → List ℕ
+quoted text = 34 ∷ (doubled text ++ 34 ∷ [])
+
+-- a text with no line feed
+abbrev pub HasNoFeed : List ℕ → Type 0
+HasNoFeed text = AllByRecursion (λ c. c ≢ 10) text
+
+abbrev pub KeyHasNoFeed : Option (List ℕ) → Type 0
+KeyHasNoFeed None = Unit {0}
+KeyHasNoFeed (Some key) = HasNoFeed key
+
+-- a line of one value or more
+pub record CanBeLine (line : Line) : Type 0 where
+  pub some_value : line.values ≢ []
+  pub key : KeyHasNoFeed line.key
+  pub values : AllByRecursion HasNoFeed line.values
+
+-- what a text holds only in quotes: a line feed, a carriage return, and the marks " , ; [ ]
 abbrev pub needs_quotes : ℕ → Bool
-needs_quotes c = list_any (nat_eq c) (10 ∷ 13 ∷ 34 ∷ 44 ∷ 59 ∷ 61 ∷ 91 ∷ 93 ∷ [])
+needs_quotes c = list_any (nat_eq c) (10 ∷ 13 ∷ 34 ∷ 44 ∷ 59 ∷ 91 ∷ 93 ∷ [])
 
 -- spaces and tabs
 abbrev pub AreBlanks : List ℕ → Type 0
@@ -159,6 +180,10 @@ CommentHasNoFeed (Some text) = HasNoFeed text
 abbrev pub IsIgnored : List ℕ → Type 0
 IsIgnored cs = AllByRecursion (λ c. list_any (nat_eq c) (10 ∷ 13 ∷ 34 ∷ 59 ∷ 92 ∷ []) ≡ false) cs
 
+-- a text with no `=`, as a key and a first value are where they stand without quotes
+abbrev pub HasNoEquals : List ℕ → Type 0
+HasNoEquals text = AllByRecursion (λ c. c ≢ 61) text
+
 pub record IsTail (t : Tail) : Type 0 where
   pub blanks : AreBlanks t.blanks
   pub comment : CommentHasNoFeed t.comment
@@ -171,6 +196,7 @@ pub record IsSetting (s : Setting) : Type 0 where
 pub record IsLayout (l : Layout) : Type 0 where
   pub above : AllByRecursion IsTail l.above
   pub settings : (n : ℕ) → IsSetting (l.settings n)
+  pub equals : (n : ℕ) → n < 2 → (text : List ℕ) → (l.settings n).bare text ≡ true → HasNoEquals text
   pub indent : AreBlanks l.indent
   pub ignored : IsIgnored l.ignored
   pub breaks : AllByRecursion (λ b. IsTail b.tail) l.breaks

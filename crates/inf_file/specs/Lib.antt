@@ -6,12 +6,10 @@ pub mod Models
 pub mod Rows
 pub mod Parameters
 pub mod Repeats
-pub mod Outcome
 pub mod Characters
 pub mod Quotes
 pub mod Joining
 pub mod Reading
-pub mod Written
 pub mod ByName
 pub mod Spelling
 pub mod Faults

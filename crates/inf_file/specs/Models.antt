@@ -1,10 +1,11 @@
 -- How a hardware id leads to an install section (Windows Driver Kit, "INF Version Section", "INF Manufacturer Section",
 -- "INF Models Section", "INF DDInstall Section").
-use Rattle.std.specs.Prelude.{codes, ℕ, Bool, ◌&&◌, ◌||◌, nat_lt, List, [], ◌∷◌, ◌++◌, filter, take, drop, Option, None, Some, if◌then◌else◌}
-use Rattle.std.specs.List.{fold, list_any, flat_map}
+use Rattle.std.specs.Prelude.{codes, ℕ, Bool, ◌&&◌, ◌||◌, List, [], ◌∷◌, ◌++◌, take, drop, Option, None, if◌then◌else◌}
+use Rattle.std.specs.List.{list_any, flat_map, filter_map}
 use Rattle.std.specs.Option.{option_or}
-use Rattle.inf_file.specs.Sections.{Line, Section, is_same, place_named, lines_at_some, has_key, value_at}
+use Rattle.inf_file.specs.Sections.{Line, Section, is_same, place_named, lines_at, has_key, value_at}
 use Rattle.inf_file.specs.Strings.{Strings, replaced}
+use Rattle.inf_file.specs.Earliest.{earliest}
 
 unfoldable pub is_good_signature : List ℕ → Bool
 is_good_signature text = is_same (codes "$Windows NT$") text || (is_same (codes "$Chicago$") text || is_same (codes "$Windows 95$") text)
@@ -48,24 +49,15 @@ models_place strings sections line =
 
 -- the model lines of the manufacturers
 abbrev pub models : Strings → List Section → List Line → List Line
-models strings sections makers = flat_map (λ maker. lines_at_some sections (models_place strings sections maker)) makers
+models strings sections makers = flat_map (lines_at sections) (filter_map (models_place strings sections) makers)
 
 -- a model line, whose values are its install section and then its ids, has the hardware id among these
 unfoldable pub has_id : Strings → List ℕ → Line → Bool
 has_id strings id model = list_any (λ value. is_same id (replaced strings value)) (drop 1 model.values)
 
--- of two lines the one that stands first in the file
-abbrev pub earlier : Option Line → Line → Option Line
-earlier None line = Some line
-earlier (Some best) line = if nat_lt line.number best.number then Some line else Some best
-
--- the model line so far, or another one that has the id and stands earlier
-unfoldable pub earlier_with_id : Strings → List ℕ → Option Line → Line → Option Line
-earlier_with_id strings id best line = if has_id strings id line then earlier best line else best
-
 -- the first line of the file among the model lines that have the id
-unfoldable pub model_of : Strings → List Section → List Line → List ℕ → Option Line
-model_of strings sections makers id = fold earlier None (filter (has_id strings id) (models strings sections makers))
+abbrev pub model_of : Strings → List Section → List Line → List ℕ → Option Line
+model_of strings sections makers id = earliest (has_id strings id) (models strings sections makers)
 
 -- the place of the install section that a model line names
 unfoldable pub install_place : Strings → List Section → Line → Option ℕ

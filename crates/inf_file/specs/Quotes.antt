@@ -56,6 +56,10 @@ value cs = resolved_behind 0 false (trimmed_end (trimmed_start cs))
 abbrev pub cut : ℕ → List ℕ → Option (List ℕ × List ℕ)
 cut mark cs = if nat_lt (front_len mark false cs) (length cs) then Some (take (front_len mark false cs) cs, drop (front_len mark false cs + 1) cs) else None
 
+-- an `=` outside quotes parts a key from the values where it stands in front of the first comma outside quotes
+abbrev pub key_cut : List ℕ → Option (List ℕ × List ℕ)
+key_cut cs = if nat_lt (front_len 61 false cs) (front_len 44 false cs) then Some (take (front_len 61 false cs) cs, drop (front_len 61 false cs + 1) cs) else None
+
 -- the parts between commas outside quotes
 unfoldable pub parts : Bool → List ℕ → List (List ℕ)
 parts inside [] = [] ∷ []

@@ -1,7 +1,7 @@
 -- The rows of add-registry sections that give a network adapter its parameters (Windows Driver Kit, "INF AddReg Directive",
 -- "Specifying Configuration Parameters for the Advanced Properties Page"): root, subkey, name, flags and value.
 use Rattle.std.specs.Prelude.{codes, ℕ, Bool, true, false, ◌&&◌, ◌==◌, List, [], ◌∷◌, ◌++◌, length, take, drop, Option, None, Some, if◌then◌else◌}
-use Rattle.std.specs.List.{fold, filter_map}
+use Rattle.std.specs.List.{fold, filter_map, position}
 use Rattle.inf_file.specs.Sections.{Line, is_same, value_at}
 use Rattle.inf_file.specs.Strings.{Strings, replaced}
 use Rattle.inf_file.specs.Numbers.{number_of}
@@ -59,6 +59,10 @@ bad_saying Bad = true
 -- a row whose number is none
 unfoldable pub is_bad : Strings → Line → Bool
 is_bad strings line = bad_saying (saying strings line)
+
+-- the place of the parameter of a name, from 0
+abbrev pub param_place : List ℕ → List Param → Option ℕ
+param_place name params = position (λ q. is_same name q.name) params
 
 -- a parameter that is there keeps its place and spelling and takes the value; a new one goes last
 unfoldable pub with_param : List Param → Param → List Param

@@ -1,7 +1,7 @@
 -- The strings of an INF file, and their replacement (Windows Driver Kit, "INF Strings Section"): `%key%` stands for the string of
 -- that key, and `%%` is one percent sign.
-use Rattle.std.specs.Prelude.{ℕ, Bool, false, not, ◌&&◌, ◌||◌, ◌==◌, nat_le, List, [], ◌∷◌, ◌++◌, Option, None, Some, is_some, if◌then◌else◌}
-use Rattle.std.specs.List.{fold, list_all, list_any, slice_split}
+use Rattle.std.specs.Prelude.{◌≡◌, ℕ, Bool, false, not, ◌&&◌, ◌||◌, ◌==◌, nat_le, List, [], ◌∷◌, ◌++◌, Option, None, Some, is_some, if◌then◌else◌}
+use Rattle.std.specs.List.{All, fold, list_all, list_any, slice_split}
 use Rattle.std.specs.Option.{option_or}
 use Rattle.inf_file.specs.Sections.{Line, has_key, value_at}
 
@@ -21,6 +21,10 @@ strings_of lines = fold with_string no_strings lines
 
 abbrev pub is_percent : ℕ → Bool
 is_percent unit = unit == 37
+
+-- a text with no percent sign
+abbrev pub HasNoPercent : List ℕ → Type 0
+HasNoPercent text = All (λ unit. is_percent unit ≡ false) text
 
 abbrev pub or_self : List ℕ → Option (List ℕ) → List ℕ
 or_self key None = 37 ∷ (key ++ 37 ∷ [])

@@ -1,10 +1,9 @@
 //! The characters of a file.
 
-ghost use Rattle.std.specs.Prelude.{◌≡◌, ◌+◌, ◌*◌, ◌<◌, ◌≤◌, ℕ, [], ◌∷◌, length, slice_index, IfOk, IfSome, MatchOption};
-ghost use Rattle.inf_file.specs.Characters.{units, is_bad, is_high, is_low, first_bad, has_mark, utf16, each_byte, characters};
-ghost use Rattle.inf_file.specs.Outcome.{Gives};
+ghost use Rattle.std.specs.Prelude.{◌≡◌, ◌*◌, ◌<◌, ◌≤◌, ◌==◌, length, slice_index, IfOk, IfSome};
+ghost use Rattle.std.specs.List.{position};
+ghost use Rattle.inf_file.specs.Characters.{units, is_bad, is_high, is_low, first_bad, has_mark, bad_behind, bad_byte, text_of};
 
-use crate::refusal::InfRefusal;
 use nd_base::OutOfMemory;
 use std::alloc::Global;
 
@@ -29,48 +28,94 @@ fn is_bad(before: u16, unit: u16, after: u16) -> bool
     unit == 0 || (is_high(unit) && !is_low(after)) || (is_low(unit) && !is_high(before))
 }
 
-/// The unit at a place, and 0 behind the last one.
-fn unit_at(units: &[u16], i: usize) -> u16
-    ensures { result ≡ slice_index units.now i }
+/// The unit of two bytes each at a place, the low byte first, and 0 behind the last one.
+fn unit_at(bytes: &[u8], i: usize) -> u16
+    ensures { result ≡ slice_index (units bytes.now) i }
 {
-    if i < units.len() { units[i] } else { 0 }
+    if i < bytes.len() / 2 {
+        u16::from(bytes[2 * i]) + 256 * u16::from(bytes[2 * i + 1])
+    } else {
+        0
+    }
 }
 
 /// The place of the first unit that no text has there.
-fn first_bad(units: &[u16]) -> Option<usize>
-    ensures value { result ≡ first_bad 0 units.now }
-    ensures within { IfSome result (λ i. i < length units.now) }
+fn first_bad(bytes: &[u8]) -> Option<usize>
+    ensures value { result ≡ first_bad 0 (units bytes.now) }
+    ensures within { IfSome result (λ i. 2 * i < length bytes.now) }
 {
     let mut before = 0;
-    for (i, unit) in units.iter().enumerate() {
-        if is_bad(before, *unit, unit_at(units, i + 1)) {
+    for i in 0..bytes.len() / 2 {
+        let unit = unit_at(bytes, i);
+        if is_bad(before, unit, unit_at(bytes, i + 1)) {
             return Some(i);
         }
-        before = *unit;
+        before = unit;
     }
     None
 }
 
-/// The unit of the first two bytes, the low one first, and what is behind them.
-fn next_unit(bytes: &[u8]) -> Option<(u16, &[u8])>
-    ensures value { MatchOption result (units bytes.now ≡ []) (λ x. units bytes.now ≡ x.0 ∷ units x.1.now) }
-    ensures shorter { IfSome result (λ x. length x.1.now < length bytes.now) }
+/// The byte of a file at which bytes behind its mark are no text.
+fn bad_behind(bytes: &[u8]) -> Option<u32>
+    requires { length bytes.now < 1048577 }
+    ensures { result ≡ bad_behind (first_bad 0 (units bytes.now)) bytes.now }
 {
-    if bytes.len() < 2 {
-        return None;
+    match first_bad(bytes) {
+        Some(i) => Some(2 + 2 * (i as u32)),
+        None => {
+            if bytes.len() % 2 == 0 {
+                None
+            } else {
+                Some(1 + bytes.len() as u32)
+            }
+        }
     }
-    Some((u16::from(bytes[0]) + 256 * u16::from(bytes[1]), &bytes[2..]))
+}
+
+/// The place of the first byte that is zero.
+fn first_zero(bytes: &[u8]) -> Option<usize>
+    ensures { result ≡ position (λ b. b == 0) bytes.now }
+{
+    bytes.iter().position(|byte| *byte == 0)
+}
+
+/// The first byte of a file without the mark at which no text stands.
+fn zero_byte(bytes: &[u8]) -> Option<u32>
+    requires { length bytes.now < 1048577 }
+    ensures { result ≡ position (λ b. b == 0) bytes.now }
+{
+    match first_zero(bytes) {
+        Some(i) => Some(i as u32),
+        None => None,
+    }
+}
+
+fn has_mark(bytes: &[u8]) -> bool
+    ensures { result ≡ has_mark bytes.now }
+{
+    bytes.len() >= 2 && bytes[0] == 0xff && bytes[1] == 0xfe
+}
+
+/// The first byte of a file at which no text stands.
+pub fn bad_byte(bytes: &[u8]) -> Option<u32>
+    requires { length bytes.now < 1048577 }
+    ensures { result ≡ bad_byte bytes.now }
+{
+    if has_mark(bytes) {
+        bad_behind(&bytes[2..])
+    } else {
+        zero_byte(bytes)
+    }
 }
 
 /// The units of two bytes each.
 fn units(alloc: Global, bytes: &[u8]) -> Result<Vec<u16>, OutOfMemory>
-    ensures { IfOk result (λ v. v.items ≡ units bytes.now) }
+    ensures value { IfOk result (λ v. v.items ≡ units bytes.now) }
+    ensures short { IfOk result (λ v. length v.items ≤ length bytes.now) }
 {
     let mut found = Vec::new(alloc);
-    let mut rest = bytes;
-    while let Some((unit, behind)) = next_unit(rest) {
-        found.push(unit)?;
-        rest = behind;
+    for i in 0..bytes.len() / 2 {
+        found.push(unit_at(bytes, i))?;
     }
     Ok(found)
 }
@@ -86,50 +131,14 @@ fn widened(alloc: Global, bytes: &[u8]) -> Result<Vec<u16>, OutOfMemory>
     Ok(found)
 }
 
-fn has_mark(bytes: &[u8]) -> bool
-    ensures { result ≡ has_mark bytes.now }
-{
-    bytes.len() >= 2 && bytes[0] == 0xff && bytes[1] == 0xfe
-}
-
-/// The characters of UTF-16 text behind its mark.
-fn utf16(alloc: Global, bytes: &[u8]) -> Result<Vec<u16>, InfRefusal>
-    requires { length bytes.now < 1048577 }
-    ensures value { Gives (λ v. v.items) result (utf16 (first_bad 0 (units bytes.now)) bytes.now) }
-    ensures short { IfOk result (λ v. length v.items ≤ length bytes.now) }
-{
-    let found = units(alloc, bytes)?;
-    if let Some(i) = first_bad(found.as_slice()) {
-        return Err(InfRefusal::BadText(2 + 2 * (i as u32)));
-    }
-    if bytes.len() % 2 != 0 {
-        return Err(InfRefusal::BadText(1 + bytes.len() as u32));
-    }
-    Ok(found)
-}
-
-/// The characters that the bytes are.
-fn each_byte(alloc: Global, bytes: &[u8]) -> Result<Vec<u16>, InfRefusal>
-    requires { length bytes.now < 1048577 }
-    ensures value { Gives (λ v. v.items) result (each_byte (first_bad 0 bytes.now) bytes.now) }
-    ensures short { IfOk result (λ v. length v.items ≤ length bytes.now) }
-{
-    let found = widened(alloc, bytes)?;
-    match first_bad(found.as_slice()) {
-        Some(i) => Err(InfRefusal::BadText(i as u32)),
-        None => Ok(found),
-    }
-}
-
 /// The characters of a file.
-pub fn characters(alloc: Global, bytes: &[u8]) -> Result<Vec<u16>, InfRefusal>
-    requires { length bytes.now < 1048577 }
-    ensures value { Gives (λ v. v.items) result (characters bytes.now) }
+pub fn text_of(alloc: Global, bytes: &[u8]) -> Result<Vec<u16>, OutOfMemory>
+    ensures value { IfOk result (λ v. v.items ≡ text_of bytes.now) }
     ensures short { IfOk result (λ v. length v.items ≤ length bytes.now) }
 {
     if has_mark(bytes) {
-        utf16(alloc, &bytes[2..])
+        units(alloc, &bytes[2..])
     } else {
-        each_byte(alloc, bytes)
+        widened(alloc, bytes)
     }
 }

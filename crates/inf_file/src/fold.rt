@@ -3,7 +3,7 @@
 ghost use Rattle.std.specs.Prelude.{◌≡◌, IfOk};
 ghost use Rattle.inf_file.specs.Sections.{without_case, folded, is_same};
 
-use nd_base::{OutOfMemory, Wide};
+use nd_base::OutOfMemory;
 use std::alloc::Global;
 
 /// ASCII capitals as small letters.
@@ -54,15 +54,4 @@ pub fn is_word(text: &[u16], word: &[u8]) -> bool
         }
     }
     true
-}
-
-/// A word as a text.
-pub fn wide(alloc: Global, word: &[u8]) -> Result<Wide, OutOfMemory>
-    ensures { IfOk result (λ text. text ≡ word.now) }
-{
-    let mut text = Wide::new(alloc);
-    for byte in word {
-        text.push(u16::from(*byte))?;
-    }
-    Ok(text)
 }

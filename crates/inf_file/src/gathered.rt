@@ -1,10 +1,20 @@
-//! The parameters of rows.
+//! The parameters that rows give, and their defaults.
 
-ghost use Rattle.std.specs.Prelude.{◌≡◌, [], IfOk, OnOk};
-ghost use Rattle.inf_file.specs.Rows.{with_param, with_default};
+ghost use Rattle.std.specs.Prelude.{◌≡◌, ◌++◌, ◌∷◌, [], None, map, IfOk, OnOk};
+ghost use Rattle.std.specs.List.{fold, cons_option, filter_map};
+ghost use Rattle.std.specs.Option.{option_copied};
+ghost use Rattle.inf_file.specs.Keyed.{string_in};
+ghost use Rattle.inf_file.specs.Earliest.{earlier_if, earliest};
+ghost use Rattle.inf_file.specs.Rows.{param_place, with_param, with_default, set_by, default_by, set_some, setting, given_default, bad_saying, is_bad, params_of};
+ghost use Rattle.inf_file.specs.Parameters.{unless_bad};
+ghost use Rattle.nd_base.specs.Results.{Gives};
 
 use crate::fold::folded;
-use crate::param::Param;
+use crate::lines::earlier;
+use crate::param::{Param, ParamRefusal};
+use crate::row::{Saying, read_row};
+use crate::sections::Line;
+use crate::strings::Strings;
 use indexmap::IndexMap;
 use nd_base::OutOfMemory;
 use std::alloc::Global;
@@ -40,21 +50,35 @@ impl Params {
         }
     }
 
+    /// The place of the parameter of a name.
+    fn place(&self, alloc: Global, name: &[u16]) -> Result<Option<usize>, OutOfMemory>
+        ensures { IfOk result (λ place. place ≡ param_place name.now self.now) }
+    {
+        let key = folded(alloc, name)?;
+        Ok(self.table.get_index_of(&key))
+    }
+
+    /// Puts a parameter of a new name behind the last one.
+    fn push(&mut self, alloc: Global, param: Param) -> Result<(), OutOfMemory>
+        requires { param_place param.name self.old ≡ None }
+        ensures { OnOk result (self.new ≡ self.old ++ param ∷ []) }
+    {
+        let key = folded(alloc, param.name.as_slice())?;
+        self.table.insert(key, param)?;
+        Ok(())
+    }
+
     /// Sets a parameter: one that is there keeps its place and spelling and takes the value.
     pub fn set(&mut self, alloc: Global, param: Param) -> Result<(), OutOfMemory>
         ensures { OnOk result (self.new ≡ with_param self.old param) }
     {
-        let key = folded(alloc, param.name.as_slice())?;
-        match self.table.get_index_of(&key) {
+        match self.place(alloc, param.name.as_slice())? {
             Some(place) => {
                 let held = &mut self.table[place];
                 held.value = param.value;
                 Ok(())
             }
-            None => {
-                self.table.insert(key, param)?;
-                Ok(())
-            }
+            None => self.push(alloc, param),
         }
     }
 
@@ -62,13 +86,9 @@ impl Params {
     pub fn set_default(&mut self, alloc: Global, param: Param) -> Result<(), OutOfMemory>
         ensures { OnOk result (self.new ≡ with_default self.old param) }
     {
-        let key = folded(alloc, param.name.as_slice())?;
-        match self.table.get_index_of(&key) {
+        match self.place(alloc, param.name.as_slice())? {
             Some(_) => Ok(()),
-            None => {
-                self.table.insert(key, param)?;
-                Ok(())
-            }
+            None => self.push(alloc, param),
         }
     }
 
@@ -79,5 +99,112 @@ impl Params {
         let Params { table } = self;
         let list = table.into_values().collect(alloc)?;
         Ok(list)
+    }
+}
+
+/// What rows said: the parameters that they set, and the defaults that they gave.
+#[derive(Drop)]
+struct Gathered {
+    set: Params,
+    defaults: Vec<Param>,
+}
+
+/// Whether a row's number is none.
+fn is_bad(said: &Saying) -> bool
+    ensures { result ≡ bad_saying said.now }
+{
+    match said {
+        Saying::Bad => true,
+        _ => false,
+    }
+}
+
+impl Gathered {
+    /// What a row says is put to what those before it said.
+    fn add(&mut self, alloc: Global, said: Saying) -> Result<(), OutOfMemory>
+        ensures set { OnOk result (self.new.set ≡ set_some self.old.set (set_by said)) }
+        ensures defaults { OnOk result (self.new.defaults.items ≡ self.old.defaults.items ++ cons_option (default_by said) []) }
+    {
+        match said {
+            Saying::Sets(param) => self.set.set(alloc, param),
+            Saying::Defaults(param) => {
+                self.defaults.push(param)?;
+                Ok(())
+            }
+            _ => Ok(()),
+        }
+    }
+
+    /// Takes a row, behind the first one whose number is none. Gives the first that has none.
+    #[tactic(auto, unfolding(crate::specs::Rows::is_bad))]
+    fn add_row<'a>(
+        &mut self,
+        alloc: Global,
+        strings: &Strings,
+        bad: Option<&'a Line>,
+        row: &'a Line,
+    ) -> Result<Option<&'a Line>, OutOfMemory>
+        ensures set { OnOk result (self.new.set ≡ setting (string_in strings.now) self.old.set row.now) }
+        ensures defaults { OnOk result (self.new.defaults.items ≡ self.old.defaults.items ++ cons_option (given_default (string_in strings.now) row.now) []) }
+        ensures bad { IfOk result (λ l. option_copied l ≡ earlier_if (is_bad (string_in strings.now)) (option_copied bad.entry) row.now) }
+    {
+        let said = read_row(alloc, strings, row)?;
+        let is_bad = is_bad(&said);
+        self.add(alloc, said)?;
+        if is_bad {
+            Ok(earlier(bad, row))
+        } else {
+            Ok(bad)
+        }
+    }
+
+    /// Takes rows. Gives the first whose number is none.
+    #[tactic(auto, unfolding(crate::specs::Earliest::earliest))]
+    fn add_rows<'a>(
+        &mut self,
+        alloc: Global,
+        strings: &Strings,
+        rows: &[&'a Line],
+    ) -> Result<Option<&'a Line>, OutOfMemory>
+        ensures set { OnOk result (self.new.set ≡ fold (setting (string_in strings.now)) self.old.set (map (λ l. l.now) rows.now)) }
+        ensures defaults { OnOk result (self.new.defaults.items ≡ self.old.defaults.items ++ filter_map (given_default (string_in strings.now)) (map (λ l. l.now) rows.now)) }
+        ensures bad { IfOk result (λ l. option_copied l ≡ earliest (is_bad (string_in strings.now)) (map (λ l. l.now) rows.now)) }
+    {
+        let mut bad: Option<&Line> = None;
+        for row in rows {
+            bad = self.add_row(alloc, strings, bad, row)?;
+        }
+        Ok(bad)
+    }
+
+    /// The parameters, with the defaults of those that have no value behind them.
+    fn into_list(self, alloc: Global) -> Result<Vec<Param>, OutOfMemory>
+        ensures { IfOk result (λ v. v.items ≡ fold with_default self.set self.defaults.items) }
+    {
+        let Gathered { set, defaults } = self;
+        let mut params = set;
+        for param in defaults {
+            params.set_default(alloc, param)?;
+        }
+        params.into_list(alloc)
+    }
+}
+
+/// The parameters that rows give, or the first row whose number is none.
+#[tactic(auto, unfolding(crate::specs::Rows::params_of))]
+pub fn params_of(
+    alloc: Global,
+    strings: &Strings,
+    rows: &[&Line],
+) -> Result<Vec<Param>, ParamRefusal>
+    ensures { Gives ParamRefusal.OutOfMemory (λ v. v.items) result (unless_bad (earliest (is_bad (string_in strings.now)) (map (λ l. l.now) rows.now)) (params_of (string_in strings.now) (map (λ l. l.now) rows.now))) }
+{
+    let mut gathered = Gathered {
+        set: Params::empty(alloc),
+        defaults: Vec::new(alloc),
+    };
+    match gathered.add_rows(alloc, strings, rows)? {
+        Some(row) => Err(ParamRefusal::BadValue(row.number())),
+        None => Ok(gathered.into_list(alloc)?),
     }
 }

@@ -1,12 +1,14 @@
 //! What holds of the parameters that a file gives, whatever order its checks have.
 
-ghost use Rattle.std.specs.Prelude.{ℕ, List, Option, Some, Ok, Err, ◌≡◌, ◌++◌, ◌↔◌, AllPairs, false, map, reverse};
-ghost use Rattle.std.specs.Option.{option_or};
-ghost use Rattle.inf_file.specs.Sections.{Section as InfSection, is_same};
+ghost use Rattle.std.specs.Prelude.{ℕ, List, Option, Some, Ok, Err, ◌≡◌, ◌++◌, ◌∷◌, ◌↔◌, AllPairs, false, map, reverse};
+ghost use Rattle.std.specs.Option.{option_map, option_or};
+ghost use Rattle.std.specs.List.{find};
+ghost use Rattle.inf_file.specs.Sections.{Line as InfLine, Section as InfSection, is_same, has_key, value_at};
+ghost use Rattle.inf_file.specs.Strings.{Strings, HasNoPercent, meaning, replaced, strings_of};
 ghost use Rattle.inf_file.specs.Numbers.{number_of};
 ghost use Rattle.inf_file.specs.Parameters.{parameters_of};
-ghost use Rattle.inf_file.specs.ByName.{model_in, set_by_rows, defaults_by_rows, names, each_once, value_of};
-ghost use Rattle.inf_file.specs.Earliest.{IsModel};
+ghost use Rattle.inf_file.specs.ByName.{models_in, lists_id, model_in, set_by_rows, defaults_by_rows, names, each_once, value_of};
+ghost use Rattle.inf_file.specs.Earliest.{IsFirst};
 ghost use Rattle.inf_file.specs.Faults.{LacksNone, FirstLacking, BadNone, FirstBad};
 ghost use Rattle.inf_file.specs.Spelling.{SpellsNumber};
 ghost use Rattle.inf_file.specs.declared.param.Param.{Param as Parameter};
@@ -25,6 +27,16 @@ pub fn last_row_counts()
     ensures { (ss : List InfSection) (id : List ℕ) (params : List Parameter) (name : List ℕ) → parameters_of ss id ≡ Ok params → value_of name params ≡ option_or (value_of name (reverse (set_by_rows ss id))) (value_of name (defaults_by_rows ss id)) }
 {}
 
+/// A key between two percent signs is replaced by what it means, once and from the left; a text
+/// without percent signs and a lone percent sign stand for themselves. The string of a key is the
+/// first value of the first line that has the key.
+pub fn strings_are_replaced()
+    ensures plain { (s : Strings) (text : List ℕ) → HasNoPercent text → replaced s text ≡ text }
+    ensures lone { (s : Strings) (plain rest : List ℕ) → HasNoPercent plain → HasNoPercent rest → replaced s (plain ++ 37 ∷ rest) ≡ plain ++ 37 ∷ rest }
+    ensures key { (s : Strings) (plain key rest : List ℕ) → HasNoPercent plain → HasNoPercent key → replaced s (plain ++ 37 ∷ (key ++ 37 ∷ rest)) ≡ plain ++ (meaning s key ++ replaced s rest) }
+    ensures first { (lines : List InfLine) (key : List ℕ) → strings_of lines key ≡ option_map (value_at 0) (find (has_key key) lines) }
+{}
+
 /// A text gives a number exactly where its digits, each by its place, spell that number.
 pub fn numbers_are_spelled()
     ensures { (text : List ℕ) (n : ℕ) → (number_of text ≡ Some n) ↔ SpellsNumber text n }
@@ -33,7 +45,7 @@ pub fn numbers_are_spelled()
 /// The model line of a hardware id lists it and is the first of the file that does; there is none
 /// only where no model line lists the id.
 pub fn first_model_is_taken()
-    ensures { (ss : List InfSection) (id : List ℕ) → IsModel ss id (model_in ss id) }
+    ensures { (ss : List InfSection) (id : List ℕ) → IsFirst (lists_id ss id) (models_in ss) (model_in ss id) }
 {}
 
 /// A refusal names the first line of the file that is at fault: of the lines that are read one that

@@ -4,10 +4,10 @@
 
 mod characters;
 mod fold;
-mod gather;
 mod gathered;
 mod joining;
 mod laws;
+mod lines;
 mod models;
 mod numbers;
 mod param;
@@ -23,12 +23,9 @@ mod text;
 
 pub use laws::{
     each_name_comes_once, first_fault_is_named, first_model_is_taken, last_row_counts,
-    numbers_are_spelled,
+    numbers_are_spelled, strings_are_replaced,
 };
 pub use param::{Param, ParamRefusal, ParamValue};
 pub use refusal::InfRefusal;
 pub use sections::Inf;
-pub use text::{each_section_comes_once, laid_out_is_read, written_is_read};
-
-#[cfg(test)]
-mod tests;
+pub use text::{each_section_comes_once, laid_out_is_read};

@@ -1,14 +1,18 @@
 //! How a hardware id leads to an install section.
 
-ghost use Rattle.std.specs.Prelude.{codes, ◌≡◌, ◌++◌, drop, take, filter, length, None, IfOk};
-ghost use Rattle.std.specs.List.{fold, filter_map, list_any};
+ghost use Rattle.std.specs.Prelude.{codes, ◌≡◌, [], map, drop, take, length, None, IfOk};
+ghost use Rattle.std.specs.List.{filter_map};
 ghost use Rattle.std.specs.Option.{option_copied};
 ghost use Rattle.inf_file.specs.Keyed.{string_in};
-ghost use Rattle.inf_file.specs.Sections.{is_same, has_key, value_at, place_named, lines_at};
+ghost use Rattle.inf_file.specs.Sections.{is_same, has_key, value_at, place_named};
 ghost use Rattle.inf_file.specs.Strings.{replaced};
-ghost use Rattle.inf_file.specs.Models.{is_good_signature, is_signed_by, is_signed, dotted, usual_names, first_place, is_nt_x86, decoration_place, decorated_place, models_place, has_id, earlier, earlier_with_id, model_of, install_place};
+ghost use Rattle.inf_file.specs.Earliest.{earlier_if, earliest};
+ghost use Rattle.inf_file.specs.Repeats.{thinned};
+ghost use Rattle.inf_file.specs.Parameters.{lines_of_all};
+ghost use Rattle.inf_file.specs.Models.{is_good_signature, is_signed_by, is_signed, dotted, usual_names, first_place, is_nt_x86, decoration_place, decorated_place, models_place, has_id, model_of, install_place};
 
 use crate::fold::{is_same, is_word};
+use crate::lines::{earlier, lines_of_all};
 use crate::repeats::{push_place, thinned};
 use crate::sections::{Inf, Line};
 use crate::strings::Strings;
@@ -173,7 +177,6 @@ fn has_id(alloc: Global, strings: &Strings, id: &[u16], model: &Line) -> Result<
 }
 
 /// The earlier of two model lines, where the second has the hardware id.
-#[tactic(auto, unfolding(crate::specs::Models::earlier_with_id))]
 fn earlier_with_id<'a>(
     alloc: Global,
     strings: &Strings,
@@ -181,53 +184,28 @@ fn earlier_with_id<'a>(
     best: Option<&'a Line>,
     line: &'a Line,
 ) -> Result<Option<&'a Line>, OutOfMemory>
-    ensures { IfOk result (λ l. option_copied l ≡ earlier_with_id (string_in strings.now) id.now (option_copied best.entry) line.now) }
+    ensures { IfOk result (λ l. option_copied l ≡ earlier_if (has_id (string_in strings.now) id.now) (option_copied best.entry) line.now) }
 {
-    if !has_id(alloc, strings, id, line)? {
-        return Ok(best);
-    }
-    match best {
-        None => Ok(Some(line)),
-        Some(first) => {
-            if line.number() < first.number() {
-                Ok(Some(line))
-            } else {
-                Ok(Some(first))
-            }
-        }
+    if has_id(alloc, strings, id, line)? {
+        Ok(earlier(best, line))
+    } else {
+        Ok(best)
     }
 }
 
-/// The earliest line with the hardware id.
-fn earliest<'a>(
+/// The first line of the file among those with the hardware id.
+#[tactic(auto, unfolding(crate::specs::Earliest::earliest))]
+fn first_with_id<'a>(
     alloc: Global,
     strings: &Strings,
     id: &[u16],
-    first: Option<&'a Line>,
-    lines: &'a [Line],
+    lines: &[&'a Line],
 ) -> Result<Option<&'a Line>, OutOfMemory>
-    ensures { IfOk result (λ l. option_copied l ≡ fold (earlier_with_id (string_in strings.now) id.now) (option_copied first.entry) lines.now) }
-{
-    let mut best = first;
-    for line in lines {
-        best = earlier_with_id(alloc, strings, id, best, line)?;
-    }
-    Ok(best)
-}
-
-/// The earliest line with the hardware id in the sections at these places.
-fn earliest_at<'a>(
-    inf: &'a Inf,
-    alloc: Global,
-    strings: &Strings,
-    id: &[u16],
-    places: &[usize],
-) -> Result<Option<&'a Line>, OutOfMemory>
-    ensures { IfOk result (λ l. option_copied l ≡ fold (λ best place. fold (earlier_with_id (string_in strings.now) id.now) best (lines_at inf.now place)) None places.now) }
+    ensures { IfOk result (λ l. option_copied l ≡ earliest (has_id (string_in strings.now) id.now) (map (λ l. l.now) lines.now)) }
 {
     let mut best: Option<&Line> = None;
-    for place in places {
-        best = earliest(alloc, strings, id, best, inf.lines_at(*place))?;
+    for line in lines {
+        best = earlier_with_id(alloc, strings, id, best, line)?;
     }
     Ok(best)
 }
@@ -249,6 +227,32 @@ fn models_places(
     Ok(places)
 }
 
+/// The same without those that come again.
+fn thinned_places(
+    inf: &Inf,
+    alloc: Global,
+    strings: &Strings,
+    makers: &[Line],
+) -> Result<Vec<usize>, OutOfMemory>
+    ensures { IfOk result (λ v. v.items ≡ thinned [] (filter_map (models_place (string_in strings.now) inf.now) makers.now)) }
+{
+    let places = models_places(inf, alloc, strings, makers)?;
+    thinned(alloc, places.as_slice())
+}
+
+/// The lines of these sections.
+fn models<'a>(
+    inf: &'a Inf,
+    alloc: Global,
+    strings: &Strings,
+    makers: &[Line],
+) -> Result<Vec<&'a Line>, OutOfMemory>
+    ensures { IfOk result (λ v. map (λ l. l.now) v.items ≡ lines_of_all inf.now (thinned [] (filter_map (models_place (string_in strings.now) inf.now) makers.now))) }
+{
+    let places = thinned_places(inf, alloc, strings, makers)?;
+    lines_of_all(inf, alloc, places.as_slice())
+}
+
 /// The first line of the file among the model lines with the hardware id.
 pub fn model_of<'a>(
     inf: &'a Inf,
@@ -259,9 +263,8 @@ pub fn model_of<'a>(
 ) -> Result<Option<&'a Line>, OutOfMemory>
     ensures { IfOk result (λ l. option_copied l ≡ model_of (string_in strings.now) inf.now makers.now id.now) }
 {
-    let places = models_places(inf, alloc, strings, makers)?;
-    let places = thinned(alloc, places.as_slice())?;
-    earliest_at(inf, alloc, strings, id, places.as_slice())
+    let models = models(inf, alloc, strings, makers)?;
+    first_with_id(alloc, strings, id, models.as_slice())
 }
 
 /// The place of the install section that a model line names.

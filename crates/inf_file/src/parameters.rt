@@ -1,44 +1,50 @@
 //! The parameters of a hardware id.
 
-ghost use Rattle.std.specs.Prelude.{◌≡◌};
+ghost use Rattle.std.specs.Prelude.{codes, ◌≡◌, true, map};
 ghost use Rattle.inf_file.specs.Keyed.{string_in};
-ghost use Rattle.inf_file.specs.Strings.{line_lacks};
-ghost use Rattle.inf_file.specs.Rows.{is_bad, params_of};
-ghost use Rattle.inf_file.specs.Parameters.{directives_of, reg_lines, least_number, answer, lines_read, of_lines, of_strings, parameters_of, Answers};
+ghost use Rattle.inf_file.specs.Sections.{lines_named};
+ghost use Rattle.inf_file.specs.Models.{is_signed};
+ghost use Rattle.inf_file.specs.Parameters.{of_rows, of_directives, of_lines, of_strings, parameters_of};
+ghost use Rattle.nd_base.specs.Results.{Gives};
 
-use crate::gather::params_of;
+use crate::gathered::params_of;
+use crate::lines::{directives_of, lines_read};
 use crate::models::{install_place, is_signed, model_of};
 use crate::param::{Param, ParamRefusal};
-use crate::reading::{first_bad, first_lacking, reg_places};
-use crate::repeats::thinned;
+use crate::reading::{first_lacking, rows_named};
 use crate::sections::{Inf, Line};
 use crate::strings::Strings;
 use std::alloc::Global;
 
-/// The parameters of the rows in the sections at these places, or the first line that is wrong.
-fn of_places(
+/// The parameters that rows give, or the first line that is wrong among those that are read.
+fn of_rows(
+    alloc: Global,
+    strings: &Strings,
+    read: &[&Line],
+    rows: &[&Line],
+) -> Result<Vec<Param>, ParamRefusal>
+    ensures { Gives ParamRefusal.OutOfMemory (λ v. v.items) result (of_rows (string_in strings.now) (map (λ l. l.now) read.now) (map (λ l. l.now) rows.now)) }
+{
+    match first_lacking(alloc, strings, read)? {
+        Some(line) => Err(ParamRefusal::NoString(line.number())),
+        None => params_of(alloc, strings, rows),
+    }
+}
+
+/// The same, where the rows are those of directives.
+fn of_directives(
     inf: &Inf,
     alloc: Global,
     strings: &Strings,
     makers: &[Line],
     model: &Line,
-    lines: &[Line],
-    places: &[usize],
+    directives: &[&Line],
 ) -> Result<Vec<Param>, ParamRefusal>
-    ensures { let s = string_in strings.now in
-        let rows = reg_lines inf.now places.now in
-        Answers (λ v. v.items) result (answer (least_number (line_lacks s) (lines_read makers.now model.now (directives_of lines.now) rows)) (least_number (is_bad s) rows) (params_of s rows)) }
+    ensures { Gives ParamRefusal.OutOfMemory (λ v. v.items) result (of_directives (string_in strings.now) inf.now makers.now model.now (map (λ l. l.now) directives.now)) }
 {
-    match first_lacking(inf, alloc, strings, makers, model, lines, places)? {
-        Some(number) => return Err(ParamRefusal::NoString(number)),
-        None => {}
-    }
-    match first_bad(inf, alloc, strings, places)? {
-        Some(number) => return Err(ParamRefusal::BadValue(number)),
-        None => {}
-    }
-    let params = params_of(inf, alloc, strings, places)?;
-    Ok(params)
+    let rows = rows_named(inf, alloc, strings, directives)?;
+    let read = lines_read(alloc, makers, model, directives, rows.as_slice())?;
+    of_rows(alloc, strings, read.as_slice(), rows.as_slice())
 }
 
 /// The parameters of an install section's lines, or the first line that is wrong.
@@ -50,11 +56,10 @@ fn of_lines(
     model: &Line,
     lines: &[Line],
 ) -> Result<Vec<Param>, ParamRefusal>
-    ensures { Answers (λ v. v.items) result (of_lines (string_in strings.now) inf.now makers.now model.now lines.now) }
+    ensures { Gives ParamRefusal.OutOfMemory (λ v. v.items) result (of_lines (string_in strings.now) inf.now makers.now model.now lines.now) }
 {
-    let places = reg_places(inf, alloc, strings, lines)?;
-    let places = thinned(alloc, places.as_slice())?;
-    of_places(inf, alloc, strings, makers, model, lines, places.as_slice())
+    let directives = directives_of(alloc, lines)?;
+    of_directives(inf, alloc, strings, makers, model, directives.as_slice())
 }
 
 /// The parameters of a hardware id, where the signature is good.
@@ -64,9 +69,9 @@ fn of_strings(
     strings: &Strings,
     hardware_id: &[u16],
 ) -> Result<Vec<Param>, ParamRefusal>
-    ensures { Answers (λ v. v.items) result (of_strings (string_in strings.now) inf.now hardware_id.now) }
+    ensures { Gives ParamRefusal.OutOfMemory (λ v. v.items) result (of_strings (string_in strings.now) inf.now hardware_id.now) }
 {
-    let makers = inf.lines_named(alloc, b"Manufacturer")?;
+    let makers = inf.lines_named(b"Manufacturer");
     let Some(model) = model_of(inf, alloc, strings, makers, hardware_id)? else {
         return Err(ParamRefusal::NoModel);
     };
@@ -81,13 +86,14 @@ impl Inf {
     /// defaults of those that no row sets behind them.
     #[tactic(auto, unfolding(crate::specs::Parameters::parameters_of))]
     pub fn parameters(&self, alloc: Global, hardware_id: &[u16]) -> Result<Vec<Param>, ParamRefusal>
-        ensures { Answers (λ v. v.items) result (parameters_of self.now hardware_id.now) }
+        ensures value { Gives ParamRefusal.OutOfMemory (λ v. v.items) result (parameters_of self.now hardware_id.now) }
+        // A file without a signature of Windows is refused as that, whatever memory there is.
+        ensures memory { result ≡ Err ParamRefusal.OutOfMemory → is_signed (lines_named (codes "Version") self.now) ≡ true }
     {
-        let version = self.lines_named(alloc, b"Version")?;
-        if !is_signed(version) {
+        if !is_signed(self.lines_named(b"Version")) {
             return Err(ParamRefusal::NoVersion);
         }
-        let strings = Strings::of(alloc, self.lines_named(alloc, b"Strings")?)?;
+        let strings = Strings::of(alloc, self.lines_named(b"Strings"))?;
         of_strings(self, alloc, &strings, hardware_id)
     }
 }

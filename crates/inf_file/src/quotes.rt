@@ -1,7 +1,7 @@
 //! The characters of a line: quotes, blanks, and what separators outside quotes part.
 
 ghost use Rattle.std.specs.Prelude.{◌≡◌, ℕ, false, ◌+◌, ◌≤◌, length, IfOk, MatchOption};
-ghost use Rattle.inf_file.specs.Quotes.{is_blank, turned, is_open, is_mark, front_len, trimmed_start, trimmed_end, stays, resolved_behind, value, cut, values};
+ghost use Rattle.inf_file.specs.Quotes.{is_blank, turned, is_open, is_mark, front_len, trimmed_start, trimmed_end, stays, resolved_behind, value, cut, key_cut, values};
 
 use nd_base::{OutOfMemory, Wide};
 use std::alloc::Global;
@@ -11,6 +11,9 @@ const QUOTE: u16 = 34;
 
 /// The comma, which parts values.
 const COMMA: u16 = 44;
+
+/// The sign behind a key.
+const EQUALS: u16 = 61;
 
 fn is_blank(c: u16) -> bool
     ensures { result ≡ is_blank c }
@@ -116,6 +119,19 @@ pub fn cut(mark: u16, chars: &[u16]) -> Option<(&[u16], &[u16])>
 {
     let end = front_len(mark, false, chars);
     if end < chars.len() {
+        Some((&chars[..end], &chars[end + 1..]))
+    } else {
+        None
+    }
+}
+
+/// The key and what stands behind its `=`, where one stands outside quotes in front of the first
+/// comma outside quotes.
+pub fn cut_key(chars: &[u16]) -> Option<(&[u16], &[u16])>
+    ensures { MatchOption result (key_cut chars.now ≡ None) (λ x. key_cut chars.now ≡ Some (x.0.now, x.1.now)) }
+{
+    let end = front_len(EQUALS, false, chars);
+    if end < front_len(COMMA, false, chars) {
         Some((&chars[..end], &chars[end + 1..]))
     } else {
         None

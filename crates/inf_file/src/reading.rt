@@ -1,26 +1,20 @@
-//! The lines that are read, and the first that is wrong.
+//! The rows that an install section leads to, and the first line that lacks a string.
 
-ghost use Rattle.std.specs.Prelude.{codes, ◌≡◌, ◌++◌, [], filter, if◌then◌else◌, IfOk, OnOk};
-ghost use Rattle.std.specs.List.{fold, flat_map};
+ghost use Rattle.std.specs.Prelude.{◌≡◌, ◌++◌, [], map, IfOk, OnOk};
+ghost use Rattle.std.specs.Option.{option_copied};
 ghost use Rattle.inf_file.specs.Keyed.{string_in};
-ghost use Rattle.inf_file.specs.Sections.{has_key, place_named, lines_at};
+ghost use Rattle.inf_file.specs.Sections.{place_named};
 ghost use Rattle.inf_file.specs.Strings.{replaced, line_lacks};
-ghost use Rattle.inf_file.specs.Rows.{is_bad};
-ghost use Rattle.inf_file.specs.Parameters.{named_places, is_directive, directives_of, reg_places, reg_lines, lower, least_number, lines_read};
+ghost use Rattle.inf_file.specs.Earliest.{earlier_if, earliest};
+ghost use Rattle.inf_file.specs.Repeats.{thinned};
+ghost use Rattle.inf_file.specs.Parameters.{named_places, reg_places, lines_of_all};
 
-use crate::repeats::push_place;
-use crate::row::is_bad;
+use crate::lines::{earlier, lines_of_all};
+use crate::repeats::{push_place, thinned};
 use crate::sections::{Inf, Line};
 use crate::strings::Strings;
 use nd_base::{OutOfMemory, Wide};
 use std::alloc::Global;
-
-/// Whether a line is an AddReg directive.
-fn is_directive(line: &Line) -> bool
-    ensures { result ≡ is_directive line.now }
-{
-    line.has_key(b"AddReg")
-}
 
 /// The place of the section that a value names.
 fn named_place(
@@ -52,210 +46,77 @@ fn add_places(
     Ok(())
 }
 
-/// Puts the places of the sections that an AddReg directive names behind the last one.
-fn add_directive(
+/// The places of the add-registry sections that directives name, in order.
+#[tactic(auto, unfolding(crate::specs::Parameters::named_places))]
+fn reg_places(
     inf: &Inf,
     alloc: Global,
     strings: &Strings,
-    places: &mut Vec<usize>,
-    line: &Line,
-) -> Result<(), OutOfMemory>
-    ensures { OnOk result (places.new.items ≡ places.old.items ++ (if is_directive line.now then named_places (string_in strings.now) inf.now line.now.values else [])) }
-{
-    if is_directive(line) {
-        add_places(inf, alloc, strings, places, line.values())
-    } else {
-        Ok(())
-    }
-}
-
-/// The places of the add-registry sections of an install section, in order.
-pub fn reg_places(
-    inf: &Inf,
-    alloc: Global,
-    strings: &Strings,
-    lines: &[Line],
+    directives: &[&Line],
 ) -> Result<Vec<usize>, OutOfMemory>
-    ensures { IfOk result (λ v. v.items ≡ reg_places (string_in strings.now) inf.now lines.now) }
+    ensures { IfOk result (λ v. v.items ≡ reg_places (string_in strings.now) inf.now (map (λ l. l.now) directives.now)) }
 {
     let mut places = Vec::new(alloc);
-    for line in lines {
-        add_directive(inf, alloc, strings, &mut places, line)?;
+    for directive in directives {
+        add_places(inf, alloc, strings, &mut places, directive.values())?;
     }
     Ok(places)
 }
 
-/// The lower of a number and a line's.
-fn lower(least: Option<u32>, line: &Line) -> Option<u32>
-    ensures { result ≡ lower least line.now }
-{
-    match least {
-        None => Some(line.number()),
-        Some(number) => {
-            if line.number() < number {
-                Some(line.number())
-            } else {
-                Some(number)
-            }
-        }
-    }
-}
-
-/// The lower of a number and that of a line which lacks a string.
-fn if_lacks(
+/// The places without those that say nothing new.
+fn thinned_places(
+    inf: &Inf,
     alloc: Global,
     strings: &Strings,
-    least: Option<u32>,
-    line: &Line,
-) -> Result<Option<u32>, OutOfMemory>
-    ensures { IfOk result (λ n. n ≡ (if line_lacks (string_in strings.now) line.now then lower least line.now else least)) }
+    directives: &[&Line],
+) -> Result<Vec<usize>, OutOfMemory>
+    ensures { IfOk result (λ v. v.items ≡ thinned [] (reg_places (string_in strings.now) inf.now (map (λ l. l.now) directives.now))) }
+{
+    let places = reg_places(inf, alloc, strings, directives)?;
+    thinned(alloc, places.as_slice())
+}
+
+/// The rows of the sections that directives name, without those that say nothing new.
+pub fn rows_named<'a>(
+    inf: &'a Inf,
+    alloc: Global,
+    strings: &Strings,
+    directives: &[&Line],
+) -> Result<Vec<&'a Line>, OutOfMemory>
+    ensures { IfOk result (λ v. map (λ l. l.now) v.items ≡ lines_of_all inf.now (thinned [] (reg_places (string_in strings.now) inf.now (map (λ l. l.now) directives.now)))) }
+{
+    let places = thinned_places(inf, alloc, strings, directives)?;
+    lines_of_all(inf, alloc, places.as_slice())
+}
+
+/// The earlier of two lines, where the second lacks a string.
+fn earlier_lacking<'a>(
+    alloc: Global,
+    strings: &Strings,
+    best: Option<&'a Line>,
+    line: &'a Line,
+) -> Result<Option<&'a Line>, OutOfMemory>
+    ensures { IfOk result (λ l. option_copied l ≡ earlier_if (line_lacks (string_in strings.now)) (option_copied best.entry) line.now) }
 {
     if strings.line_lacks(alloc, line)? {
-        Ok(lower(least, line))
+        Ok(earlier(best, line))
     } else {
-        Ok(least)
+        Ok(best)
     }
 }
 
-/// The same over lines.
-fn lacking(
+/// The first line of the file among those that lack a string.
+#[tactic(auto, unfolding(crate::specs::Earliest::earliest))]
+pub fn first_lacking<'a>(
     alloc: Global,
     strings: &Strings,
-    before: Option<u32>,
-    lines: &[Line],
-) -> Result<Option<u32>, OutOfMemory>
-    ensures { IfOk result (λ n. n ≡ fold (λ least line. if line_lacks (string_in strings.now) line then lower least line else least) before lines.now) }
+    lines: &[&'a Line],
+) -> Result<Option<&'a Line>, OutOfMemory>
+    ensures { IfOk result (λ l. option_copied l ≡ earliest (line_lacks (string_in strings.now)) (map (λ l. l.now) lines.now)) }
 {
-    let mut least = before;
+    let mut best: Option<&Line> = None;
     for line in lines {
-        least = if_lacks(alloc, strings, least, line)?;
+        best = earlier_lacking(alloc, strings, best, line)?;
     }
-    Ok(least)
-}
-
-/// The same at a line, if that is an AddReg directive.
-fn if_directive_lacks(
-    alloc: Global,
-    strings: &Strings,
-    least: Option<u32>,
-    line: &Line,
-) -> Result<Option<u32>, OutOfMemory>
-    ensures { IfOk result (λ n. n ≡ (if is_directive line.now then (if line_lacks (string_in strings.now) line.now then lower least line.now else least) else least)) }
-{
-    if is_directive(line) {
-        if_lacks(alloc, strings, least, line)
-    } else {
-        Ok(least)
-    }
-}
-
-/// The same over the AddReg directives among lines.
-fn lacking_directives(
-    alloc: Global,
-    strings: &Strings,
-    before: Option<u32>,
-    lines: &[Line],
-) -> Result<Option<u32>, OutOfMemory>
-    ensures { IfOk result (λ n. n ≡ fold (λ least line. if is_directive line then (if line_lacks (string_in strings.now) line then lower least line else least) else least) before lines.now) }
-{
-    let mut least = before;
-    for line in lines {
-        least = if_directive_lacks(alloc, strings, least, line)?;
-    }
-    Ok(least)
-}
-
-/// The same over the sections at these places.
-fn lacking_sections(
-    inf: &Inf,
-    alloc: Global,
-    strings: &Strings,
-    before: Option<u32>,
-    places: &[usize],
-) -> Result<Option<u32>, OutOfMemory>
-    ensures { IfOk result (λ n. n ≡ fold (λ best place. fold (λ least line. if line_lacks (string_in strings.now) line then lower least line else least) best (lines_at inf.now place)) before places.now) }
-{
-    let mut least = before;
-    for place in places {
-        least = lacking(alloc, strings, least, inf.lines_at(*place))?;
-    }
-    Ok(least)
-}
-
-/// The least number of the lines read that lack a string.
-pub fn first_lacking(
-    inf: &Inf,
-    alloc: Global,
-    strings: &Strings,
-    makers: &[Line],
-    model: &Line,
-    lines: &[Line],
-    places: &[usize],
-) -> Result<Option<u32>, OutOfMemory>
-    ensures { IfOk result (λ n. n ≡ least_number (line_lacks (string_in strings.now)) (lines_read makers.now model.now (directives_of lines.now) (reg_lines inf.now places.now))) }
-{
-    let of_makers = lacking(alloc, strings, None, makers)?;
-    let of_model = if_lacks(alloc, strings, of_makers, model)?;
-    let of_directives = lacking_directives(alloc, strings, of_model, lines)?;
-    lacking_sections(inf, alloc, strings, of_directives, places)
-}
-
-/// The lower of a number and that of a row whose number is none.
-fn if_bad(
-    alloc: Global,
-    strings: &Strings,
-    least: Option<u32>,
-    line: &Line,
-) -> Result<Option<u32>, OutOfMemory>
-    ensures { IfOk result (λ n. n ≡ (if is_bad (string_in strings.now) line.now then lower least line.now else least)) }
-{
-    if is_bad(alloc, strings, line)? {
-        Ok(lower(least, line))
-    } else {
-        Ok(least)
-    }
-}
-
-/// The same over rows.
-fn bad_rows(
-    alloc: Global,
-    strings: &Strings,
-    before: Option<u32>,
-    lines: &[Line],
-) -> Result<Option<u32>, OutOfMemory>
-    ensures { IfOk result (λ n. n ≡ fold (λ least line. if is_bad (string_in strings.now) line then lower least line else least) before lines.now) }
-{
-    let mut least = before;
-    for line in lines {
-        least = if_bad(alloc, strings, least, line)?;
-    }
-    Ok(least)
-}
-
-/// The same over the sections at these places.
-fn bad_sections(
-    inf: &Inf,
-    alloc: Global,
-    strings: &Strings,
-    places: &[usize],
-) -> Result<Option<u32>, OutOfMemory>
-    ensures { IfOk result (λ n. n ≡ fold (λ best place. fold (λ least line. if is_bad (string_in strings.now) line then lower least line else least) best (lines_at inf.now place)) None places.now) }
-{
-    let mut least = None;
-    for place in places {
-        least = bad_rows(alloc, strings, least, inf.lines_at(*place))?;
-    }
-    Ok(least)
-}
-
-/// The least number of the rows whose number is none.
-pub fn first_bad(
-    inf: &Inf,
-    alloc: Global,
-    strings: &Strings,
-    places: &[usize],
-) -> Result<Option<u32>, OutOfMemory>
-    ensures { IfOk result (λ n. n ≡ least_number (is_bad (string_in strings.now)) (reg_lines inf.now places.now)) }
-{
-    bad_sections(inf, alloc, strings, places)
+    Ok(best)
 }

@@ -4,7 +4,7 @@ ghost use Rattle.std.specs.Prelude.{◌≡◌, take, drop, IfOk};
 ghost use Rattle.inf_file.specs.Keyed.{string_in};
 ghost use Rattle.inf_file.specs.Sections.{is_same};
 ghost use Rattle.inf_file.specs.Numbers.{number_of};
-ghost use Rattle.inf_file.specs.Rows.{is_zero, params_key, driver_key_row, default_row, row, saying, is_bad};
+ghost use Rattle.inf_file.specs.Rows.{is_zero, params_key, driver_key_row, default_row, row, saying};
 
 use crate::fold::is_word;
 use crate::numbers::number_of;
@@ -146,15 +146,4 @@ pub fn read_row(alloc: Global, strings: &Strings, line: &Line) -> Result<Saying,
         flags.as_slice(),
         value,
     )
-}
-
-/// Whether a line is a row whose number is none.
-#[tactic(auto, unfolding(crate::specs::Rows::is_bad))]
-pub fn is_bad(alloc: Global, strings: &Strings, line: &Line) -> Result<bool, OutOfMemory>
-    ensures { IfOk result (λ b. b ≡ is_bad (string_in strings.now) line.now) }
-{
-    match read_row(alloc, strings, line)? {
-        Saying::Bad => Ok(true),
-        _ => Ok(false),
-    }
 }

@@ -1,10 +1,10 @@
 //! The sections of an INF file.
 
-ghost use Rattle.std.specs.Prelude.{◌≡◌, ◌<◌, ◌++◌, ◌∷◌, [], length, slice_get, IfOk, OnOk, OnErr};
+ghost use Rattle.std.specs.Prelude.{◌≡◌, ◌<◌, ◌++◌, ◌∷◌, [], None, length, slice_get, IfOk, OnOk, OnErr};
 ghost use Rattle.std.specs.List.{position};
 ghost use Rattle.std.specs.Option.{option_copied, option_map};
 
-use crate::fold::{folded, is_word, wide};
+use crate::fold::{folded, is_word};
 use indexmap::IndexMap;
 use nd_base::{OutOfMemory, Wide};
 use std::alloc::Global;
@@ -123,7 +123,7 @@ impl Line {
 }
 
 impl Section {
-    ghost use Rattle.inf_file.specs.Sections.{with_last_line};
+    ghost use Rattle.inf_file.specs.Sections.{is_named, with_last_line};
 
     /// No lines yet.
     fn new(alloc: Global, name: Wide) -> Section
@@ -140,6 +140,12 @@ impl Section {
         ensures { result.now ≡ self.now.lines }
     {
         self.lines.as_slice()
+    }
+
+    fn is_named(&self, name: &[u8]) -> bool
+        ensures { result ≡ is_named name.now self.now }
+    {
+        is_word(self.name.as_slice(), name)
     }
 
     fn add(&mut self, line: Line) -> Result<(), OutOfMemory>
@@ -178,15 +184,23 @@ impl Inf {
         ensures ok { OnOk result (self.new ≡ with_section name.now self.old) }
         ensures err { OnErr result (self.new ≡ self.old) }
     {
-        let key = folded(alloc, name)?;
-        match self.sections.get_index_of(&key) {
+        match self.place(alloc, name)? {
             Some(place) => Ok(place),
-            None => {
-                let section = Section::new(alloc, Wide::copy(alloc, name)?);
-                let (place, _) = self.sections.insert_full(key, section)?;
-                Ok(place)
-            }
+            None => self.push_section(alloc, name),
         }
+    }
+
+    /// Puts a section of a new name, without lines, behind the last one. Gives its place.
+    fn push_section(&mut self, alloc: Global, name: &[u16]) -> Result<usize, OutOfMemory>
+        requires { place_named name.now self.old ≡ None }
+        ensures place { IfOk result (λ place. place ≡ length self.old) }
+        ensures ok { OnOk result (self.new ≡ self.old ++ (record { name = name.now; lines = [] }) ∷ []) }
+        ensures err { OnErr result (self.new ≡ self.old) }
+    {
+        let section = Section::new(alloc, Wide::copy(alloc, name)?);
+        let key = folded(alloc, name)?;
+        let (place, _) = self.sections.insert_full(key, section)?;
+        Ok(place)
     }
 
     /// Puts a line behind the last one of the section at a place.
@@ -209,14 +223,16 @@ impl Inf {
         }
     }
 
-    /// The lines of the section of a name, none where there is no such section.
-    pub fn lines_named(&self, alloc: Global, name: &[u8]) -> Result<&[Line], OutOfMemory>
-        ensures { IfOk result (λ lines. lines.now ≡ lines_named name.now self.now) }
+    /// The lines of the section of a name of ASCII, none where there is no such section. This takes no
+    /// memory, and time for each section.
+    pub fn lines_named(&self, name: &[u8]) -> &[Line]
+        ensures { result.now ≡ lines_named name.now self.now }
     {
-        let name = wide(alloc, name)?;
-        match self.place(alloc, name.as_slice())? {
-            Some(place) => Ok(self.lines_at(place)),
-            None => Ok(&[]),
+        for section in self.sections.values() {
+            if section.is_named(name) {
+                return section.lines();
+            }
         }
+        &[]
     }
 }

@@ -1,6 +1,6 @@
 //! The strings of an INF file, and their replacement.
 
-ghost use Rattle.std.specs.Prelude.{◌≡◌, ◌<◌, ◌≤◌, ◌++◌, ◌∷◌, [], length, MatchOption, IfOk, IfSome, OnOk};
+ghost use Rattle.std.specs.Prelude.{◌≡◌, ◌<◌, ◌≤◌, ◌++◌, ◌∷◌, [], None, length, MatchOption, IfOk, IfSome, OnOk};
 ghost use Rattle.std.specs.List.{position, slice_split, list_any, list_all};
 ghost use Rattle.std.specs.Option.{option_copied};
 ghost use Rattle.inf_file.specs.Keyed.{string_in, or_string};
@@ -113,15 +113,21 @@ impl Strings {
     fn add_string(&mut self, alloc: Global, key: &[u16], text: &[u16]) -> Result<(), OutOfMemory>
         ensures { OnOk result (string_in self.new ≡ or_string (string_in self.old) key.now text.now) }
     {
-        let key = folded(alloc, key)?;
-        match self.table.get_index_of(&key) {
+        match self.get(alloc, key)? {
             Some(_) => Ok(()),
-            None => {
-                let text = Wide::copy(alloc, text)?;
-                self.table.insert(key, text)?;
-                Ok(())
-            }
+            None => self.push(alloc, key, text),
         }
+    }
+
+    /// Puts the string of a new key behind the last one.
+    fn push(&mut self, alloc: Global, key: &[u16], text: &[u16]) -> Result<(), OutOfMemory>
+        requires { string_in self.old key.now ≡ None }
+        ensures { OnOk result (string_in self.new ≡ or_string (string_in self.old) key.now text.now) }
+    {
+        let text = Wide::copy(alloc, text)?;
+        let key = folded(alloc, key)?;
+        self.table.insert(key, text)?;
+        Ok(())
     }
 
     /// The string of a key.

@@ -53,6 +53,11 @@ pub Rose-earlier : {first : ℕ} (before now : ℕ) → first ≤ before → Ros
 Rose-earlier before now le (inl lt) = inl (omega arith)
 Rose-earlier before now le (inr e) = inr e
 
+-- and has risen later too
+pub Rose-later : (before mid now : ℕ) → before ≤ mid → mid ≤ now → Rose before mid → Rose before now
+Rose-later before mid now low later (inl less) = inl (omega arith)
+Rose-later before mid now low later (inr last) = grind arith
+
 tied : (name : List ℕ) → eq_by_cmp (slice_cmp nat_cmp) name name ≡ true
 tied name = ap is_eq (tied_itself nat_list_cmp_total name)
 

@@ -12,7 +12,8 @@ use Rattle.nd_base.specs.declared.layout.LayoutRefusal.TheVariants.{TooLong, Lin
 use Rattle.nd_base.specs.declared.layout.Offsets.{Offsets}
 use Rattle.nd_base.specs.Layout.{row}
 use Rattle.nd_base.specs.LayoutFile.{IsStated, AreGood, LinesState, AreApart, IsLayout, IsFirstPair, IsMissing, AreRefused, IsRefused}
-use Rattle.nd_base.specs.LayoutReading.{◌>>=◌, behind_lines, nothing, accepted, complete, reading}
+use Rattle.nd_base.specs.Results.{◌>>=◌}
+use Rattle.nd_base.specs.LayoutReading.{behind_lines, nothing, accepted, complete, reading}
 use Rattle.nd_base.proofs.LayoutFronts.{Knows, Outcome, walked, all_good, line_again}
 use Rattle.nd_base.proofs.LayoutPairs.{NoPair, FoundPair, overlaps, one_pair, no_pair}
 

@@ -8,8 +8,10 @@ use Rattle.nd_base.specs.declared.layout.LayoutRefusal.{LayoutRefusal}
 use Rattle.nd_base.specs.declared.layout.LayoutRefusal.TheVariants.{TooLong, Line, UnknownName, Repeated, Missing, Overlap}
 use Rattle.nd_base.specs.declared.layout.Offsets.{Offsets}
 use Rattle.nd_base.specs.LayoutText.{line_content}
-use Rattle.nd_base.specs.LayoutFile.{SaysNothing, States, line_at, IsStated, IsGood, AreGood, AreRefused}
-use Rattle.nd_base.specs.LayoutReading.{◌>>=◌, behind, behind_lines, nothing}
+use Rattle.nd_base.specs.Words.{SaysNothing}
+use Rattle.nd_base.specs.LayoutFile.{States, line_at, IsStated, IsGood, AreGood, AreRefused}
+use Rattle.nd_base.specs.Results.{◌>>=◌}
+use Rattle.nd_base.specs.LayoutReading.{behind, behind_lines, nothing}
 use Rattle.nd_base.proofs.LayoutLine.{content_states, content_nothing, content_unknown, content_bad, Holds, holds}
 
 -- behind the first k lines

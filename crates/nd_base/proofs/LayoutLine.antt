@@ -1,107 +1,21 @@
 -- What is read of one line is what it says.
-use Rattle.std.proofs.Common.{◌≡◌, ◌≢◌, ℕ, zero, suc, ◌+◌, ◌-◌, ◌*◌, ◌^◌, ◌<◌, ◌≤◌, Bool, true, false, cond, leb, eqb, List, [], ◌∷◌, map, min, get_or, Option, Some, None, refl, sym, ap, subst, ◌∙◌, inl, inr, arith}
+use Rattle.std.proofs.Common.{◌≡◌, ◌≢◌, ℕ, ◌+◌, ◌-◌, ◌^◌, ◌<◌, ◌≤◌, Bool, true, false, cond, leb, eqb, List, [], ◌∷◌, min, get_or, Option, Some, None, refl, sym, ap, subst, ◌∙◌, inl, inr, arith}
 use Rattle.std.specs.Prelude.{codes}
-use Rattle.std.specs.List.{AllByRecursion}
-use Rattle.std.specs.Int.Digits.{number_from_digits_after}
 use Rattle.std.specs.Str.{bytes_eq}
-use Rattle.std.proofs.lemmas.Bool.{cases_Bool, cases_lt, eqb-true, eq-eqb, leb-true, leb-false, le-leb, and_parts, and_from, agree_below, agree_below_at}
+use Rattle.std.proofs.lemmas.Bool.{cases_Bool, eqb-true, leb-true, le-leb, agree_below, agree_below_at}
 use Rattle.std.proofs.lemmas.Slice.Eq.{bytes_eq-Decides}
 use Rattle.nd_base.specs.declared.layout_field.Object.{Object}
 use Rattle.nd_base.specs.declared.layout_field.Object.TheVariants.{Packet, OutOfBand, Buffer, Block}
 use Rattle.nd_base.specs.declared.layout_text.Content.{Content}
 use Rattle.nd_base.specs.declared.layout_text.Content.TheVariants.{Skipped, Bad, Unknown, Offset}
 use Rattle.nd_base.specs.Layout.{limit, row, rows}
-use Rattle.nd_base.specs.LayoutText.{is_digit, digits_after, capped, may_be_decimal, decimal, first_from, place_of, placed, numbered, words_content, line_content}
-use Rattle.nd_base.specs.LayoutFile.{IsDecimal, value, IsComment, SaysNothing, Says, States, NamesNoField, IsBad, words}
-
--- ---- decimal numbers
-
-abbrev AreDigits : List ℕ → Type 0
-AreDigits word = AllByRecursion (λ c. (48 ≤ c) × (c ≤ 57)) word
-
-digit_yes : (c : ℕ) → is_digit c ≡ true → (48 ≤ c) × (c ≤ 57)
-digit_yes c h = let p = and_parts (leb 48 c) (leb c 57) h in (leb-true 48 c p.0, leb-true c 57 p.1)
-
-yes_digit : (c : ℕ) → (48 ≤ c) × (c ≤ 57) → is_digit c ≡ true
-yes_digit c h = and_from (leb 48 c) (leb c 57) (le-leb 48 c h.0) (le-leb c 57 h.1)
-
-digits_found : (n : ℕ) (cs : List ℕ) → AreDigits cs → digits_after n cs ≡ Some (number_from_digits_after 10 n (map (λ c. c - 48) cs))
-unfolding digits_after
-digits_found n [] h = refl
-digits_found n (c ∷ cs) h = rw (yes_digit c h.0) (digits_found (n * 10 + (c - 48)) cs h.1)
-
-digits_are : (n v : ℕ) (cs : List ℕ) → digits_after n cs ≡ Some v → AreDigits cs
-unfolding digits_after
-digits_are n v [] h = tt
-digits_are n v (c ∷ cs) h = elim (cases_Bool (is_digit c)) [
-  | inl on ↦ (digit_yes c on, digits_are (n * 10 + (c - 48)) v cs (rw on at h))
-  | inr off ↦ let e : None ≡ Some v = rw off at h in absurd cc
-]
-
-may_be : (word : List ℕ) → IsDecimal word → may_be_decimal word ≡ true
-may_be [] h = let lt = h.some in absurd (omega arith)
-may_be (c ∷ []) h = elim (cases_Bool (eqb c 48)) [
-  | inl on ↦ rw on refl
-  | inr off ↦ rw off refl
-]
-may_be (c ∷ d ∷ cs) h = elim (cases_Bool (eqb c 48)) [
-  | inl on ↦ let len = h.leading (eqb-true c 48 on) in absurd (omega arith)
-  | inr off ↦ rw off refl
-]
-
-pub decimal_found : (word : List ℕ) → IsDecimal word → decimal word ≡ Some (min (value word) (2 ^ 32))
-decimal_found word h = ap (λ (b : Bool). cond b (capped (digits_after 0 word)) None) (may_be word h) ∙ ap capped (digits_found 0 word h.digits)
-
-capped_some : (o : Option ℕ) (v : ℕ) → capped o ≡ Some v → (n : ℕ) × (o ≡ Some n)
-capped_some None v h = absurd cc
-capped_some (Some n) v h = (n, refl)
-
-capped_digits : (word : List ℕ) (v : ℕ) → capped (digits_after 0 word) ≡ Some v → AreDigits word
-capped_digits word v h = let p = capped_some (digits_after 0 word) v h in digits_are 0 p.0 word p.1
-
-begins : (word : List ℕ) → AreDigits word → may_be_decimal word ≡ true → IsDecimal word
-begins [] ds h = absurd cc
-begins (c ∷ []) ds h = record { some = omega arith; digits = ds; leading = λ e. refl }
-begins (c ∷ d ∷ cs) ds h = record { some = omega arith; digits = ds; leading = λ e. let k : false ≡ true = rw (eq-eqb c 48 e) at h in absurd cc }
-
-pub is_decimal : (word : List ℕ) (v : ℕ) → decimal word ≡ Some v → IsDecimal word
-is_decimal word v h = elim (cases_Bool (may_be_decimal word)) [
-  | inl on ↦ let k : capped (digits_after 0 word) ≡ Some v = rw on at h in begins word (capped_digits word v k) on
-  | inr off ↦ let k : None ≡ Some v = rw off at h in absurd cc
-]
+use Rattle.nd_base.specs.LayoutText.{first_from, place_of, placed, stated, words_content, line_content}
+use Rattle.nd_base.specs.LayoutFile.{Says, States, NamesNoField, IsBad}
+use Rattle.nd_base.specs.Words.{words, IsComment, SaysNothing, decimal_value, decimal_of, saturated}
+use Rattle.nd_base.proofs.Decimals.{decimal_found, is_decimal}
+use Rattle.nd_base.proofs.FirstFrom.{first_found, first_none}
 
 -- ---- names
-
-pub first_found : (test : ℕ → Bool) (i n k : ℕ) → first_from test i n ≡ Some k → (i ≤ k) × (k < i + n) × (test k ≡ true)
-unfolding first_from
-first_found test i zero k h = absurd cc
-first_found test i (suc n) k h = elim (cases_Bool (test i)) [
-  | inl on ↦ let e : Some i ≡ Some k = rw on at h in let same : i ≡ k = cc in (omega arith, omega arith, subst (λ (m : ℕ). test m ≡ true) same on)
-  | inr off ↦ let p = first_found test (suc i) n k (rw off at h) in (omega arith, omega arith, p.2)
-]
-
--- none in front of it passes
-pub first_before : (test : ℕ → Bool) (i n k : ℕ) → first_from test i n ≡ Some k → (m : ℕ) → i ≤ m → m < k → test m ≡ false
-unfolding first_from
-first_before test i zero k h m le lt = absurd cc
-first_before test i (suc n) k h m le lt = elim (cases_Bool (test i)) [
-  | inl on ↦ let e : Some i ≡ Some k = rw on at h in let same : i ≡ k = cc in absurd (omega arith)
-  | inr off ↦ elim (cases_lt i m) [
-    | inl less ↦ first_before test (suc i) n k (rw off at h) m (omega arith) lt
-    | inr more ↦ let e : i ≡ m = omega arith in subst (λ (x : ℕ). test x ≡ false) e off
-  ]
-]
-
-pub first_none : (test : ℕ → Bool) (i n : ℕ) → first_from test i n ≡ None → (k : ℕ) → i ≤ k → k < i + n → test k ≡ false
-unfolding first_from
-first_none test i zero h k le lt = absurd (omega arith)
-first_none test i (suc n) h k le lt = elim (cases_Bool (test i)) [
-  | inl on ↦ let e : Some i ≡ None = rw on at h in absurd cc
-  | inr off ↦ elim (cases_Bool (leb (suc i) k)) [
-    | inl less ↦ first_none test (suc i) n (rw off at h) k (leb-true (suc i) k less) (omega arith)
-    | inr more ↦ let le2 = leb-false (suc i) k more in let e : i ≡ k = omega arith in subst (λ (m : ℕ). test m ≡ false) e off
-  ]
-]
 
 same_bytes : (xs ys : List ℕ) → bytes_eq xs ys ≡ true → xs ≡ ys
 same_bytes xs ys h = (bytes_eq-Decides xs ys).0 h
@@ -158,8 +72,8 @@ content_comment : (line : List ℕ) → IsComment line → line_content line ≡
 unfolding line_content
 content_comment line (text, is) = ap (λ (b : Bool). cond b Skipped (words_content (words line))) (ap (λ (s : List ℕ). eqb (get_or s 0 0) 35) is)
 
-content_says : (line name number : List ℕ) → Says line name number → line_content line ≡ placed (place_of name) (min (value number) (2 ^ 32))
-content_says line name number h = content_words line h.no_comment ∙ ap words_content h.words_are ∙ ap (numbered name) (decimal_found number h.decimal)
+content_says : (line name number : List ℕ) → Says line name number → line_content line ≡ placed (place_of name) (min (decimal_value number) (2 ^ 64 - 1))
+content_says line name number h = content_words line h.no_comment ∙ ap words_content h.words_are ∙ ap (stated name) (decimal_found number h.decimal)
 
 limit_small : (o : Object) → limit o ≤ 4096
 limit_small Packet = omega arith
@@ -170,8 +84,8 @@ limit_small Block = omega arith
 pub content_states : (line : List ℕ) (i n : ℕ) → States line i n → line_content line ≡ Offset i n
 content_states line i n (lt, (number, says, is), inside) =
     let most = limit_small (row i).object in
-    let same : min (value number) (2 ^ 32) ≡ n = omega (arith, is, inside, most) in
-    content_says line (row i).name number says ∙ ap (λ (o : Option ℕ). placed o (min (value number) (2 ^ 32))) (name_at i lt) ∙ ap (placed (Some i)) same
+    let same : min (decimal_value number) (2 ^ 64 - 1) ≡ n = omega (arith, is, inside, most) in
+    content_says line (row i).name number says ∙ ap (λ (o : Option ℕ). placed o (min (decimal_value number) (2 ^ 64 - 1))) (name_at i lt) ∙ ap (placed (Some i)) same
     ∙ ap (λ (b : Bool). cond b (Offset i n) Bad) (le-leb (n + (row i).width) (limit (row i).object) inside)
 
 pub content_nothing : (line : List ℕ) → SaysNothing line → line_content line ≡ Skipped
@@ -183,7 +97,7 @@ content_nothing line (inr blank) = elim (cases_Bool (eqb (get_or line 0 0) 35)) 
 
 pub content_unknown : (line : List ℕ) → NamesNoField line → line_content line ≡ Unknown
 content_unknown line (name, number, says, none) =
-    content_says line name number says ∙ ap (λ (o : Option ℕ). placed o (min (value number) (2 ^ 32))) (no_name name (place_of name) refl none)
+    content_says line name number says ∙ ap (λ (o : Option ℕ). placed o (min (decimal_value number) (2 ^ 64 - 1))) (no_name name (place_of name) refl none)
 
 -- ---- from what is read to what the line says
 
@@ -203,14 +117,14 @@ bad_line line h = record {
 holds_bad : (line : List ℕ) (c : Content) → line_content line ≡ c → c ≡ Bad → Holds line c
 holds_bad line c is bad = subst (Holds line) (sym bad) (bad_line line (is ∙ bad))
 
-placed_holds : (line name number : List ℕ) (o : Option ℕ) (v : ℕ) → line_content line ≡ placed o v → Says line name number → v ≡ min (value number) (2 ^ 32) → place_of name ≡ o → Holds line (placed o v)
+placed_holds : (line name number : List ℕ) (o : Option ℕ) (v : ℕ) → line_content line ≡ placed o v → Says line name number → v ≡ min (decimal_value number) (2 ^ 64 - 1) → place_of name ≡ o → Holds line (placed o v)
 placed_holds line name number None v is says at name_is = (name, number, says, unnamed name name_is)
 placed_holds line name number (Some i) v is says at name_is = elim (cases_Bool (leb (v + (row i).width) (limit (row i).object))) [
   | inl on ↦
       let p = named name i name_is in
       let inside = leb-true (v + (row i).width) (limit (row i).object) on in
       let most = limit_small (row i).object in
-      let same : v ≡ value number = omega (arith, at, inside, most) in
+      let same : v ≡ decimal_value number = omega (arith, at, inside, most) in
       let e : placed (Some i) v ≡ Offset i v = ap (λ (b : Bool). cond b (Offset i v) Bad) on in
       subst (Holds line) (sym e) (p.0, (number, subst (λ (s : List ℕ). Says line s number) p.1 says, same), inside)
   | inr off ↦
@@ -218,16 +132,16 @@ placed_holds line name number (Some i) v is says at name_is = elim (cases_Bool (
       holds_bad line (placed (Some i) v) is e
 ]
 
-numbered_holds : (line name number : List ℕ) (o : Option ℕ) → line_content line ≡ numbered name o → (IsComment line → ⊥) → words line ≡ name ∷ codes "=" ∷ number ∷ [] → decimal number ≡ o → Holds line (numbered name o)
-numbered_holds line name number None is plain ws at = bad_line line is
-numbered_holds line name number (Some v) is plain ws at =
+stated_holds : (line name number : List ℕ) (o : Option ℕ) → line_content line ≡ stated name o → (IsComment line → ⊥) → words line ≡ name ∷ codes "=" ∷ number ∷ [] → saturated (decimal_of number) ≡ o → Holds line (stated name o)
+stated_holds line name number None is plain ws at = bad_line line is
+stated_holds line name number (Some v) is plain ws at =
     let d = is_decimal number v at in
     let e = decimal_found number d in
-    let same : v ≡ min (value number) (2 ^ 32) = cc in
+    let same : v ≡ min (decimal_value number) (2 ^ 64 - 1) = cc in
     placed_holds line name number (place_of name) v is (record { no_comment = plain; words_are = ws; decimal = d }) same refl
 
-three_hold : (line name equals number : List ℕ) (b : Bool) → bytes_eq equals (codes "=") ≡ b → line_content line ≡ cond b (numbered name (decimal number)) Bad → (IsComment line → ⊥) → words line ≡ name ∷ equals ∷ number ∷ [] → Holds line (cond b (numbered name (decimal number)) Bad)
-three_hold line name equals number true e is plain ws = numbered_holds line name number (decimal number) is plain (subst (λ (s : List ℕ). words line ≡ name ∷ s ∷ number ∷ []) (same_bytes equals (codes "=") e) ws) refl
+three_hold : (line name equals number : List ℕ) (b : Bool) → bytes_eq equals (codes "=") ≡ b → line_content line ≡ cond b (stated name (saturated (decimal_of number))) Bad → (IsComment line → ⊥) → words line ≡ name ∷ equals ∷ number ∷ [] → Holds line (cond b (stated name (saturated (decimal_of number))) Bad)
+three_hold line name equals number true e is plain ws = stated_holds line name number (saturated (decimal_of number)) is plain (subst (λ (s : List ℕ). words line ≡ name ∷ s ∷ number ∷ []) (same_bytes equals (codes "=") e) ws) refl
 three_hold line name equals number false e is plain ws = bad_line line is
 
 words_hold : (line : List ℕ) (ws : List (List ℕ)) → line_content line ≡ words_content ws → (IsComment line → ⊥) → words line ≡ ws → Holds line (words_content ws)

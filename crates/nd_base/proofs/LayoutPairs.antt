@@ -8,7 +8,7 @@ use Rattle.nd_base.specs.declared.layout.LayoutRefusal.TheVariants.{Overlap}
 use Rattle.nd_base.specs.Layout.{row, rows}
 use Rattle.nd_base.specs.LayoutFile.{ShareAByte, AreApart, IsFirstPair}
 use Rattle.nd_base.specs.LayoutReading.{same_object, share, shared_with, first_shared, overlap_of, pair_of}
-use Rattle.nd_base.proofs.LayoutLine.{first_found, first_before, first_none}
+use Rattle.nd_base.proofs.FirstFrom.{first_found, first_before, first_none}
 
 same_is : (a b : Object) → same_object a b ≡ true → a ≡ b
 same_is Packet Packet h = refl

@@ -1,9 +1,14 @@
+mod Decimals
 pub mod FileCalls
 mod FileTable
+mod FirstFrom
 pub mod Hex
-pub mod LayoutFile
-pub mod LayoutFronts
-pub mod LayoutLine
-pub mod LayoutLines
-pub mod LayoutPairs
-pub mod LayoutText
+mod LayoutFile
+mod LayoutFronts
+mod LayoutLine
+mod LayoutLines
+mod LayoutPairs
+mod LinesAndWords
+mod Rising
+mod Sound
+mod Usual

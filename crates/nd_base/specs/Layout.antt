@@ -1,6 +1,6 @@
 -- Where the library's objects have their fields. The objects and fields are those of ndis.h and, for buffers, of the MDL of wdm.h in
 -- the Windows DDK; their names, usual offsets and widths are this project's table. specs/LayoutFile.antt says what a layout file is.
-use Rattle.std.specs.Prelude.{codes, ℕ, List, [], ◌∷◌, map, slice_index_or}
+use Rattle.std.specs.Prelude.{codes, ◌≡◌, ◌≢◌, ℕ, ◌+◌, ◌≤◌, ◌⊎◌, List, [], ◌∷◌, map, slice_index, slice_index_or}
 use Rattle.nd_base.specs.declared.layout_field.Field.{Field}
 use Rattle.nd_base.specs.declared.layout_field.Field.TheVariants.{PacketPhysicalCount, PacketTotalLength, PacketHead, PacketTail, PacketPool, PacketCount, PacketFlags, PacketValidCounts, PacketNdisFlags, PacketOobOffset, PacketMiniportReserved, OobHeaderSize, OobStatus, BufferNext, BufferSize, BufferFlags, BufferMapped, BufferStart, BufferCount, BufferOffset, BlockPacketIndicate, BlockSendComplete, BlockSendResources, BlockResetComplete, BlockStatus, BlockStatusComplete, BlockQueryComplete, BlockSetComplete, BlockEthIndicate, BlockEthComplete, BlockEthDb}
 use Rattle.nd_base.specs.declared.layout_field.Object.{Object}
@@ -103,3 +103,22 @@ number BlockEthDb = 30
 -- the usual offsets, in the order of the fields
 unfoldable pub usual : List ℕ
 usual = map (λ (r : Row). r.offset) rows
+
+-- a field's object, and its width in bytes
+abbrev pub object_of : Field → Object
+object_of field = (row (number field)).object
+
+abbrev pub width_of : Field → ℕ
+width_of field = (row (number field)).width
+
+-- where a field begins, in bytes from its object's start
+abbrev pub offset_of : List ℕ → Field → ℕ
+offset_of offsets field = slice_index offsets (number field)
+
+-- What is true of every layout: each field ends inside its object, no object has more than 4,096 bytes of fields, and of two fields of one
+-- object one ends before the other begins.
+pub record IsSound (offsets : List ℕ) : Type 0 where
+  pub inside : (field : Field) → offset_of offsets field + width_of field ≤ limit (object_of field)
+  pub small : (field : Field) → limit (object_of field) ≤ 4096
+  pub apart : (field other : Field) → field ≢ other → object_of field ≡ object_of other
+      → (offset_of offsets field + width_of field ≤ offset_of offsets other) ⊎ (offset_of offsets other + width_of other ≤ offset_of offsets field)

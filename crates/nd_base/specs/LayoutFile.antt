@@ -3,42 +3,14 @@
 -- from its object's start. Each of the 31 fields is stated once, lies in its object, and shares no byte with another one there.
 -- A field is named by its place in the table of specs/Layout.antt, from 0. (The format is this project's own; the objects and fields
 -- are those of ndis.h and, for buffers, of the MDL of wdm.h in the Windows DDK.)
-use Rattle.std.specs.Prelude.{codes, ◌≡◌, ◌≢◌, ℕ, ◌+◌, ◌-◌, ◌<◌, ◌≤◌, Bool, true, false, ◌||◌, ◌==◌, List, [], ◌∷◌, ◌++◌, length, map, slice_index, slice_index_or, ◌⊎◌}
-use Rattle.std.specs.List.{AllByRecursion, flat_map, filter, slice_split}
+use Rattle.std.specs.Prelude.{codes, ◌≡◌, ◌≢◌, ℕ, ◌+◌, ◌<◌, ◌≤◌, List, [], ◌∷◌, ◌++◌, length, slice_index, slice_index_or, ◌⊎◌}
+use Rattle.std.specs.List.{flat_map}
 use Rattle.std.specs.Fmt.{decimal}
-use Rattle.std.specs.Int.Digits.{number_from_digits}
 use Rattle.std.specs.Str.Lines.{lines}
 use Rattle.nd_base.specs.declared.layout.LayoutRefusal.{LayoutRefusal}
 use Rattle.nd_base.specs.declared.layout.LayoutRefusal.TheVariants.{TooLong, Line, UnknownName, Repeated, Missing, Overlap}
 use Rattle.nd_base.specs.Layout.{limit, row, rows, Row}
-
--- a space or a tab
-abbrev pub is_blank : ℕ → Bool
-is_blank byte = (byte == 32) || (byte == 9)
-
-abbrev pub has_bytes : List ℕ → Bool
-has_bytes [] = false
-has_bytes (b ∷ bs) = true
-
--- the parts of a line between blanks that are not empty
-unfoldable pub words : List ℕ → List (List ℕ)
-words line = filter has_bytes (slice_split is_blank line)
-
--- a decimal number: digits without a sign, and a leading 0 only where it is alone
-pub record IsDecimal (word : List ℕ) : Type 0 where
-  pub some : 0 < length word
-  pub digits : AllByRecursion (λ c. (48 ≤ c) × (c ≤ 57)) word
-  pub leading : slice_index word 0 ≡ 48 → length word ≡ 1
-
-abbrev pub value : List ℕ → ℕ
-value word = number_from_digits 10 (map (λ c. c - 48) word)
-
--- a line that begins with #
-abbrev pub IsComment : List ℕ → Type 0
-IsComment line = (text : List ℕ) × (line ≡ 35 ∷ text)
-
-abbrev pub SaysNothing : List ℕ → Type 0
-SaysNothing line = IsComment line ⊎ (words line ≡ [])
+use Rattle.nd_base.specs.Words.{words, IsComment, SaysNothing, IsDecimal, decimal_value}
 
 -- three words: a name, = and a decimal number
 pub record Says (line name number : List ℕ) : Type 0 where
@@ -48,7 +20,7 @@ pub record Says (line name number : List ℕ) : Type 0 where
 
 -- the line states that the field at place i begins at byte n, and with its width the field lies in its object
 abbrev pub States : List ℕ → ℕ → ℕ → Type 0
-States line i n = (i < 31) × ((number : List ℕ) × Says line (row i).name number × (n ≡ value number)) × (n + (row i).width ≤ limit (row i).object)
+States line i n = (i < 31) × ((number : List ℕ) × Says line (row i).name number × (n ≡ decimal_value number)) × (n + (row i).width ≤ limit (row i).object)
 
 abbrev pub NamesNoField : List ℕ → Type 0
 NamesNoField line = (name : List ℕ) × (number : List ℕ) × Says line name number × ((i : ℕ) → i < 31 → name ≢ (row i).name)
@@ -90,6 +62,12 @@ ShareAByte offsets i j = ((row i).object ≡ (row j).object) × ((b : ℕ) × Is
 
 abbrev pub AreApart : List ℕ → Type 0
 AreApart offsets = (i j : ℕ) → i < j → j < 31 → ShareAByte offsets i j → ⊥
+
+-- each field lies in its object, and shares no byte with another one there
+pub record AreSound (offsets : List ℕ) : Type 0 where
+  pub fields : length offsets ≡ 31
+  pub inside : (i : ℕ) → i < 31 → slice_index offsets i + (row i).width ≤ limit (row i).object
+  pub apart : AreApart offsets
 
 -- the text is a layout file of these offsets
 abbrev pub IsLayout : List ℕ → List ℕ → Type 0

@@ -11,11 +11,7 @@ use Rattle.nd_base.specs.declared.layout.LayoutRefusal.TheVariants.{TooLong, Lin
 use Rattle.nd_base.specs.declared.layout.Offsets.{Offsets}
 use Rattle.nd_base.specs.Layout.{row}
 use Rattle.nd_base.specs.LayoutText.{first_from, line_content}
-
-infixl 10 ◌>>=◌
-abbrev pub ◌>>=◌ : {A B : Type 0} → Result A LayoutRefusal → (A → Result B LayoutRefusal) → Result B LayoutRefusal
-(Ok x) >>= f = f x
-(Err e) >>= f = Err e
+use Rattle.nd_base.specs.Results.{◌>>=◌}
 
 -- which names stood in the lines so far, and their numbers, when the line with this number says the offset of a field
 abbrev pub stated : ℕ → Offsets → ℕ → ℕ → Result Offsets LayoutRefusal

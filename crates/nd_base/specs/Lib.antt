@@ -7,4 +7,8 @@ pub mod LayoutReading
 pub mod LayoutText
 pub mod MemoryFiles
 pub mod MemorySink
+pub mod Options
+pub mod Results
+pub mod Rows
 pub mod Text
+pub mod Words

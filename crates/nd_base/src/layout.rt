@@ -1,46 +1,50 @@
 //! Where the library's objects have their fields.
 
-ghost use Rattle.std.specs.Prelude.{◌≡◌, ◌<◌, ◌≤◌, ℕ, length, not, slice_index, IfOk, IfErr, IfSome, MatchResult, List};
+ghost use Rattle.std.specs.Prelude.{◌≡◌, ◌+◌, ◌<◌, ◌≤◌, ℕ, length, not, slice_index, IfOk, IfErr, IfSome, MatchResult, List};
 ghost use Rattle.std.specs.List.{position};
 ghost use Rattle.std.specs.Str.Lines.{lines};
-ghost use Rattle.nd_base.specs.Layout.{number, usual};
+ghost use Rattle.nd_base.specs.Layout.{number, usual, limit, width_of, object_of, IsSound};
 ghost use Rattle.nd_base.specs.declared.layout.LayoutRefusal.{LayoutRefusal};
 ghost use Rattle.nd_base.specs.LayoutText.{IsPlaced};
 ghost use Rattle.nd_base.specs.LayoutFile.{IsLayout, IsRefused, usual_text};
 ghost use Rattle.nd_base.specs.LayoutReading.{complete, behind, behind_lines, same_object, share, shared_with, first_shared, overlap_of, nothing, reading};
 
 use crate::layout_field::{FIELDS, Field, Object, row_at};
-use crate::layout_text::{Content, line_content, next_line};
+use crate::layout_text::{Content, line_content};
+use crate::words::next_line;
+use std::error::Error;
+use std::fmt::{self, Display, Formatter, Write};
 use std::marker::Model;
-use thiserror::Error;
 
 /// The longest layout file that is read, in bytes.
 const LONGEST_TEXT: usize = 65_536;
 
 /// Why a layout file is not read: the first fault. Lines are numbered from 1.
-#[derive(Clone, Copy, Debug, PartialEq, Eq, Error)]
+#[derive(Clone, Copy, Debug, PartialEq, Eq)]
 pub enum LayoutRefusal {
     /// More than 65,536 bytes.
-    #[error("the layout file is too long")]
     TooLong,
     /// Not a name, `=` and a decimal number; or the number is not below 2^32, or the field would not
     /// lie in its object there.
-    #[error("line {0} of the layout is not `name = offset`")]
     Line(u64),
     /// A name that no field has.
-    #[error("line {0} of the layout names no field")]
     UnknownName(u64),
     /// A name that a line before it has.
-    #[error("line {0} of the layout names a field again")]
     Repeated(u64),
     /// The first field that no line names.
-    #[error("the layout has no offset of {0:?}")]
     Missing(Field),
     /// Two fields of one object share a byte: of all such pairs the one whose first field is
     /// earliest, and then its second.
-    #[error("in the layout {0:?} and {1:?} share a byte")]
     Overlap(Field, Field),
 }
+
+impl Display for LayoutRefusal {
+    fn fmt<W: Write>(&self, f: &mut Formatter<W>) -> fmt::Result {
+        write!(f, "the layout file is refused: {self:?}")
+    }
+}
+
+impl Error for LayoutRefusal {}
 
 /// Which fields have a line, and their offsets, in the order of the fields.
 #[derive(Clone, Copy)]
@@ -57,10 +61,13 @@ pub struct Layout {
 
 impl Model for Layout {
     ghost use Rattle.std.specs.Prelude.{List, ℕ};
+    ghost use Rattle.nd_base.specs.LayoutFile.{AreSound};
 
     ghost Value = { List ℕ };
 
     ghost view = { λ l. l.offsets };
+
+    ghost invariant = { λ l. AreSound l.offsets };
 }
 
 fn is_same(a: Object, b: Object) -> bool
@@ -213,9 +220,18 @@ impl Layout {
 
     /// Where a field begins, in bytes from its object's start.
     pub fn offset(&self, field: Field) -> u32
-        ensures { result ≡ slice_index self.now (number field) }
+        ensures value { result ≡ slice_index self.now (number field) }
+        ensures inside { result + width_of field ≤ limit (object_of field) }
     {
         self.offsets[field.number()]
+    }
+
+    /// Each field ends inside its object, and of two fields of one object one ends before the other
+    /// begins. This is a law: it does nothing.
+    pub fn is_sound(&self)
+        ensures { IsSound self.now }
+    {
+        let _offsets = self.offsets;
     }
 
     /// Reads a layout file: text of at most 65,536 bytes with one line `name = offset` for each

@@ -1,7 +1,7 @@
 //! The fields of the library's objects: packets with their out-of-band part, buffers and blocks.
 
 ghost use Rattle.std.specs.Prelude.{◌≡◌, ◌<◌, map};
-ghost use Rattle.nd_base.specs.Layout.{limit, rows, row, seen, number};
+ghost use Rattle.nd_base.specs.Layout.{limit, rows, row, seen, number, width_of};
 
 /// A field of one of the library's objects.
 #[derive(Clone, Copy, Debug, PartialEq, Eq)]
@@ -337,6 +337,16 @@ impl Field {
         ensures small { result < 31 }
     {
         self as usize
+    }
+}
+
+impl Field {
+    /// How many bytes the field has.
+    #[tactic(auto, unfolding(crate::specs::Layout::seen))]
+    pub fn width(self) -> u32
+        ensures { result ≡ width_of self }
+    {
+        row_at(self.number()).width
     }
 }
 

@@ -1,15 +1,11 @@
-//! The lines of a layout file, their words and numbers.
+//! The lines of a layout file.
 
-ghost use Rattle.std.specs.Prelude.{◌≡◌, ◌==◌, ◌∷◌, [], ◌<◌, ◌≤◌, length, map, MatchOption, IfSome};
-ghost use Rattle.std.specs.List.{position};
-ghost use Rattle.std.specs.Str.Lines.{lines, strip_carriage_return};
-ghost use Rattle.nd_base.specs.LayoutText.{is_digit, with_word, digits_after, capped, may_be_decimal, decimal, place_of, offset_line, words_content, line_content, IsPlaced};
-ghost use Rattle.nd_base.specs.LayoutFile.{is_blank, words};
+ghost use Rattle.std.specs.Prelude.{◌≡◌, ◌<◌, IfSome};
+ghost use Rattle.nd_base.specs.LayoutText.{place_of, offset_line, words_content, line_content, IsPlaced};
+ghost use Rattle.nd_base.specs.Words.{words};
 
 use crate::layout_field::{FIELDS, row_at};
-
-/// The least number that no offset is.
-const TOO_BIG: u64 = 0x1_0000_0000;
+use crate::words::{decimal, next_word};
 
 /// What a line says.
 #[derive(Clone, Copy, Debug, PartialEq, Eq)]
@@ -22,115 +18,6 @@ pub enum Content {
     Unknown,
     /// The offset of the field at a place in the order of the fields.
     Offset(usize, u32),
-}
-
-fn is_blank(byte: u8) -> bool
-    ensures { result ≡ is_blank byte }
-{
-    byte == b' ' || byte == b'\t'
-}
-
-/// A line without the carriage return at its end.
-fn without_return(line: &[u8]) -> &[u8]
-    ensures { result.now ≡ strip_carriage_return line.now }
-{
-    if !line.is_empty() && line[line.len() - 1] == b'\r' {
-        return &line[..line.len() - 1];
-    }
-    line
-}
-
-/// Where the first line feed stands.
-fn line_end(bytes: &[u8]) -> Option<usize>
-    ensures { result ≡ position (λ byte. byte == 10) bytes.now }
-{
-    bytes.iter().position(|byte| *byte == b'\n')
-}
-
-/// Where the first blank stands.
-fn part_end(bytes: &[u8]) -> Option<usize>
-    ensures { result ≡ position is_blank bytes.now }
-{
-    bytes.iter().position(|byte| is_blank(*byte))
-}
-
-fn is_digit(byte: u8) -> bool
-    ensures { result ≡ is_digit byte }
-{
-    byte >= b'0' && byte <= b'9'
-}
-
-/// The first line, and what is behind it.
-pub fn next_line(bytes: &[u8]) -> (&[u8], &[u8])
-    requires { 0 < length bytes.now }
-    ensures lines { lines bytes.now ≡ result.0.now ∷ lines result.1.now }
-    ensures shorter { length result.1.now < length bytes.now }
-{
-    match line_end(bytes) {
-        Some(end) => (without_return(&bytes[..end]), &bytes[end + 1..]),
-        None => (bytes, &[]),
-    }
-}
-
-/// What is in front of the first blank, and what is behind it.
-fn first_part(bytes: &[u8]) -> (&[u8], &[u8])
-    ensures words { words bytes.now ≡ with_word result.0.now (words result.1.now) }
-    ensures shorter { 0 < length bytes.now → length result.1.now < length bytes.now }
-{
-    match part_end(bytes) {
-        Some(end) => (&bytes[..end], &bytes[end + 1..]),
-        None => (bytes, &[]),
-    }
-}
-
-/// The first word, and what is behind it.
-fn next_word(bytes: &[u8]) -> Option<(&[u8], &[u8])>
-    ensures { MatchOption result (words bytes.now ≡ []) (λ x. words bytes.now ≡ x.0.now ∷ words x.1.now) }
-{
-    let mut rest = bytes;
-    while !rest.is_empty() {
-        let (part, behind) = first_part(rest);
-        if !part.is_empty() {
-            return Some((part, behind));
-        }
-        rest = behind;
-    }
-    None
-}
-
-/// Whether a word begins as a decimal number: with a byte, and with `0` only where it is alone.
-fn may_be_decimal(word: &[u8]) -> bool
-    ensures { result ≡ may_be_decimal word.now }
-{
-    match word {
-        [] => false,
-        [first, others @ ..] => *first != b'0' || others.is_empty(),
-    }
-}
-
-/// The number that digits stand for, or 2^32 where it is not below.
-fn digits(word: &[u8]) -> Option<u64>
-    ensures { result ≡ capped (digits_after 0 word.now) }
-{
-    let mut value = 0u64;
-    for byte in word {
-        if !is_digit(*byte) {
-            return None;
-        }
-        value = (value * 10 + u64::from(*byte - b'0')).min(TOO_BIG);
-    }
-    Some(value)
-}
-
-/// The number that a word of decimal digits without a leading zero stands for, or 2^32 where it is
-/// not below.
-fn decimal(word: &[u8]) -> Option<u64>
-    ensures { result ≡ decimal word.now }
-{
-    if !may_be_decimal(word) {
-        return None;
-    }
-    digits(word)
 }
 
 /// The place of a name in the order of the fields.
@@ -162,7 +49,7 @@ fn offset_line(name: &[u8], equals: &[u8], number: &[u8]) -> Content
         return Content::Unknown;
     };
     let row = row_at(place);
-    if offset + u64::from(row.width) > u64::from(row.object.limit()) {
+    if offset.saturating_add(u64::from(row.width)) > u64::from(row.object.limit()) {
         return Content::Bad;
     }
     Content::Offset(place, offset as u32)

@@ -7,6 +7,7 @@ pub mod event_gate;
 pub mod fault;
 mod fault_plan;
 mod file_table;
+pub mod laws;
 pub mod layout;
 mod layout_field;
 mod layout_text;
@@ -15,7 +16,9 @@ pub mod memory_files;
 pub mod memory_sink;
 pub mod named_files;
 pub mod numbers;
+pub mod rows;
 pub mod wide_string;
+pub mod words;
 
 pub use byte_string::Bytes;
 pub use calm::{CalmFiles, CalmSink};
@@ -30,7 +33,5 @@ pub use named_files::Files;
 pub use numbers::{
     AdapterNo, Addr, BindingNo, Breach, CtxNo, LoanNo, PacketNo, Phase, RequestNo, Slot, Status,
 };
+pub use rows::{Keyed, Rows};
 pub use wide_string::Wide;
-
-#[cfg(test)]
-mod tests;

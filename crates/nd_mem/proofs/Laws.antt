@@ -1,15 +1,16 @@
 -- The laws of the words on guest memory that the crates above cite.
-use Rattle.std.proofs.Common.{◌≡◌, ◌≢◌, ℕ, zero, suc, ◌+◌, ◌-◌, ◌^◌, ◌<◌, ◌≤◌, ◌==◌, inl, inr, true, cond, ◌&&◌, List, [], ◌∷◌, ◌++◌, length, get_or, Option, None, Some, Ok, is_some, refl, sym, ap, ◌∙◌, arith, nat_le, nat_lt, if◌then◌else◌}
+use Rattle.std.proofs.Common.{◌≡◌, ◌≢◌, ℕ, zero, suc, ◌+◌, ◌-◌, ◌^◌, ◌<◌, ◌≤◌, ◌==◌, inl, inr, true, cond, ◌&&◌, List, [], ◌∷◌, ◌++◌, length, get_or, replicate, Option, None, Some, Ok, is_some, refl, sym, ap, ◌∙◌, arith, nat_le, nat_lt, if◌then◌else◌}
 use Rattle.std.specs.Cmp.{nat_cmp_total, unsigned_tied}
 use Rattle.std.specs.FinMap as map
 use Rattle.std.proofs.lemmas.Bool.{cases_eq, cases_lt}
 use Rattle.std.proofs.lemmas.List.{ext_get_or}
 use Rattle.std.proofs.lemmas.Bool.Decides.{nat_tests}
 use Rattle.std.proofs.Math.Nat.{mod-add-mod, mod-mod, mod-eq_of_lt}
+use Rattle.std.specs.Option.{option_or}
 use Rattle.nd_mem.specs.declared.Rights.{Rights}
 use Rattle.nd_mem.specs.declared.MemFault.{MemFault}
 use Rattle.nd_mem.specs.Cell.{Cell, zero_cell, cell_with, rights_in}
-use Rattle.nd_mem.specs.Space.{Space, Cells, IsLow, wrapped, Access, Any, allows, fault_in, fault_at, either_of, first_fault, answer_of, byte_in, bytes_from, with_byte, put_from, zeros_from, first_mapped}
+use Rattle.nd_mem.specs.Space.{Space, Cells, IsLow, wrapped, Access, Any, allows, fault_in, fault_at, first_fault, answer_of, byte_in, bytes_from, with_byte, put_from, zeros_from, first_mapped}
 
 -- two maps with the same look-up are one
 pub same_space : (s t : Space) → ((x : ℕ) → map.get s x ≡ map.get t x) → s ≡ t
@@ -181,7 +182,7 @@ fault_none access cells a (suc n) none =
     rw (ap (fault_at access cells) (let e : a ≡ a + 0 = omega arith in e) ∙ none 0 (omega arith))
     (fault_none access cells (a + 1) n (λ k less. ap (fault_at access cells) (omega arith) ∙ none (suc k) (omega arith)))
 
-either_none : {A : Type 0} (x y : Option A) → either_of x y ≡ None → (x ≡ None) × (y ≡ None)
+either_none : {A : Type 0} (x y : Option A) → option_or x y ≡ None → (x ≡ None) × (y ≡ None)
 either_none None y e = (refl, e)
 either_none (Some x) y e = absurd (cc)
 
@@ -196,28 +197,28 @@ pub fault_same : (access : Access) (f g : Cells) (a n : ℕ) → ((k : ℕ) → 
 unfolding first_fault
 fault_same access f g a zero same = refl
 fault_same access f g a (suc n) same =
-    ap (λ x. either_of x (first_fault access f (a + 1) n)) (ap (fault_at access f) (let e : a ≡ a + 0 = omega arith in e) ∙ same 0 (omega arith) ∙ ap (fault_at access g) (omega arith))
-    ∙ ap (either_of (fault_at access g a)) (fault_same access f g (a + 1) n (λ k less. ap (fault_at access f) (omega arith) ∙ same (suc k) (omega arith) ∙ ap (fault_at access g) (omega arith)))
+    ap (λ x. option_or x (first_fault access f (a + 1) n)) (ap (fault_at access f) (let e : a ≡ a + 0 = omega arith in e) ∙ same 0 (omega arith) ∙ ap (fault_at access g) (omega arith))
+    ∙ ap (option_or (fault_at access g a)) (fault_same access f g (a + 1) n (λ k less. ap (fault_at access f) (omega arith) ∙ same (suc k) (omega arith) ∙ ap (fault_at access g) (omega arith)))
 
-either_assoc : {A : Type 0} (x y z : Option A) → either_of x (either_of y z) ≡ either_of (either_of x y) z
+either_assoc : {A : Type 0} (x y z : Option A) → option_or x (option_or y z) ≡ option_or (option_or x y) z
 either_assoc None y z = refl
 either_assoc (Some x) y z = refl
 
-pub fault_split : (access : Access) (cells : Cells) (a m n : ℕ) → first_fault access cells a (m + n) ≡ either_of (first_fault access cells a m) (first_fault access cells (a + m) n)
+pub fault_split : (access : Access) (cells : Cells) (a m n : ℕ) → first_fault access cells a (m + n) ≡ option_or (first_fault access cells a m) (first_fault access cells (a + m) n)
 unfolding first_fault
 fault_split access cells a zero n = ap (first_fault access cells a) (let e : 0 + n ≡ n = omega arith in e) ∙ ap (λ b. first_fault access cells b n) (omega arith)
 fault_split access cells a (suc m) n =
     ap (first_fault access cells a) (let e : suc m + n ≡ suc (m + n) = omega arith in e)
-    ∙ ap (either_of (fault_at access cells a)) (fault_split access cells (a + 1) m n)
+    ∙ ap (option_or (fault_at access cells a)) (fault_split access cells (a + 1) m n)
     ∙ either_assoc (fault_at access cells a) (first_fault access cells (a + 1) m) (first_fault access cells (a + 1 + m) n)
-    ∙ ap (λ b. either_of (first_fault access cells a (suc m)) (first_fault access cells b n)) (omega arith)
+    ∙ ap (λ b. option_or (first_fault access cells a (suc m)) (first_fault access cells b n)) (omega arith)
 
 fault_from : (access : Access) (cells : Cells) (a b n : ℕ) → wrapped a ≡ wrapped b → first_fault access cells a n ≡ first_fault access cells b n
 unfolding first_fault
 fault_from access cells a b zero same = refl
 fault_from access cells a b (suc n) same =
-    ap (λ c. either_of (fault_in access (record { 0 = c }) (cells c)) (first_fault access cells (a + 1) n)) same
-    ∙ ap (either_of (fault_at access cells b)) (fault_from access cells (a + 1) (b + 1) n (sym (wrapped_wrapped a 1) ∙ ap (λ c. wrapped (c + 1)) same ∙ wrapped_wrapped b 1))
+    ap (λ c. option_or (fault_in access (record { 0 = c }) (cells c)) (first_fault access cells (a + 1) n)) same
+    ∙ ap (option_or (fault_at access cells b)) (fault_from access cells (a + 1) (b + 1) n (sym (wrapped_wrapped a 1) ∙ ap (λ c. wrapped (c + 1)) same ∙ wrapped_wrapped b 1))
 
 pub fault_wrapped : (access : Access) (cells : Cells) (a n : ℕ) → first_fault access cells (wrapped a) n ≡ first_fault access cells a n
 fault_wrapped access cells a n = fault_from access cells (wrapped a) a n (mod-mod a (2 ^ 32))
@@ -230,8 +231,11 @@ fault_by_rights access a (Some x) (Some y) same =
     let e : x.rights ≡ y.rights = cc in
     ap (λ r. fault_in access (record { 0 = a }) (Some (record { byte = 0; rights = r }))) e
 
+pub fault_put_at : (access : Access) (s : Space) (a : ℕ) (bytes : List ℕ) (b : ℕ) → fault_at access (map.get (put_from s a bytes)) b ≡ fault_at access (map.get s) b
+fault_put_at access s a bytes b = fault_by_rights access (wrapped b) _ _ (put_rights s a bytes (wrapped b))
+
 pub fault_put : (access : Access) (s : Space) (a : ℕ) (bytes : List ℕ) (b n : ℕ) → first_fault access (map.get (put_from s a bytes)) b n ≡ first_fault access (map.get s) b n
-fault_put access s a bytes b n = fault_same access _ _ b n (λ k less. fault_by_rights access (wrapped (b + k)) _ _ (put_rights s a bytes (wrapped (b + k))))
+fault_put access s a bytes b n = fault_same access _ _ b n (λ k less. fault_put_at access s a bytes (b + k))
 
 fault_any_at : (access : Access) (a : ℕ) (x : Option Cell) → fault_in access (record { 0 = a }) x ≡ None → fault_in Any (record { 0 = a }) x ≡ None
 fault_any_at access a None e = absurd (cc)
@@ -251,6 +255,20 @@ read_after_write s a bytes few none =
 
 pub read_apart : (s : Space) (a : ℕ) (bytes : List ℕ) (b n : ℕ) → ((j k : ℕ) → j < length bytes → k < n → wrapped (a + j) ≢ wrapped (b + k)) → bytes_from (map.get (put_from s a bytes)) b n ≡ bytes_from (map.get s) b n
 read_apart s a bytes b n apart = bytes_same _ _ b n (λ k less. get_put_out s a bytes (wrapped (b + k)) (λ j before. apart j k before less))
+
+pub read_zeros : (s : Space) (a n : ℕ) (rights : Rights) (b m : ℕ) → a + n ≤ 2 ^ 32 → a ≤ b → b + m ≤ a + n → bytes_from (map.get (zeros_from s a n rights)) b m ≡ replicate m 0
+unfolding bytes_from
+read_zeros s a n rights b zero fits low high = refl
+read_zeros s a n rights b (suc m) fits low high =
+    let here : map.get (zeros_from s a n rights) (wrapped b) ≡ Some (zero_cell rights) = ap (map.get (zeros_from s a n rights)) (wrapped_below b (omega arith)) ∙ get_zeros_in s a n rights b low (omega arith) in
+    ap (λ cell. byte_in cell ∷ bytes_from (map.get (zeros_from s a n rights)) (b + 1) m) here
+    ∙ ap (λ rest. 0 ∷ rest) (read_zeros s a n rights (b + 1) m fits (omega arith) (omega arith))
+
+pub read_zeros_out : (s : Space) (a n : ℕ) (rights : Rights) (b m : ℕ) → b + m ≤ 2 ^ 32 → (a < b + m → a + n ≤ b) → bytes_from (map.get (zeros_from s a n rights)) b m ≡ bytes_from (map.get s) b m
+read_zeros_out s a n rights b m fits out =
+    bytes_same _ _ b m (λ k less.
+    let is : wrapped (b + k) ≡ b + k = wrapped_below (b + k) (omega arith) in
+    get_zeros_out s a n rights (wrapped (b + k)) (λ low. omega (arith, out (omega arith))))
 
 fault_in_zeros : (access : Access) (a : ℕ) (rights : Rights) → allows access rights ≡ true → fault_in access (record { 0 = a }) (Some (zero_cell rights)) ≡ None
 fault_in_zeros access a rights may = rw may
@@ -318,12 +336,6 @@ mapped_same f g a (suc n) same =
 pub mapped_put : (s : Space) (a : ℕ) (bytes : List ℕ) (b n : ℕ) → first_mapped (map.get (put_from s a bytes)) b n ≡ first_mapped (map.get s) b n
 mapped_put s a bytes b n = mapped_same _ _ b n (λ k less. put_domain s a bytes (b + k))
 
--- the first of n addresses is mapped, so it is the first that is
-pub mapped_first : (cells : Cells) (a n : ℕ) → is_some (cells a) ≡ true → 0 < n → first_mapped cells a n ≡ Some a
-unfolding first_mapped
-mapped_first cells a zero is some = absurd (omega arith)
-mapped_first cells a (suc n) is some = rw is
-
 -- the first of n addresses that is mapped, from what is known of it
 pub mapped_at : (cells : Cells) (a n x : ℕ) → a ≤ x → x < a + n → ((y : ℕ) → a ≤ y → y < x → cells y ≡ None) → is_some (cells x) ≡ true → first_mapped cells a n ≡ Some x
 unfolding first_mapped
@@ -335,12 +347,6 @@ mapped_at cells a (suc n) x low high before some =
           let same : a ≡ x = omega arith in
           rw (ap (λ b. is_some (cells b)) same ∙ some) (ap Some same)
     ]
-
-pub mapped_zeros_in : (s : Space) (a n : ℕ) (rights : Rights) (b m : ℕ) → a ≤ b → b < a + n → 0 < m → first_mapped (map.get (zeros_from s a n rights)) b m ≡ Some b
-mapped_zeros_in s a n rights b m low high some = mapped_first _ b m (ap is_some (get_zeros_in s a n rights b low high)) some
-
-pub mapped_zeros_out : (s : Space) (a n : ℕ) (rights : Rights) (b m : ℕ) → (a < b + m → a + n ≤ b) → first_mapped (map.get (zeros_from s a n rights)) b m ≡ first_mapped (map.get s) b m
-mapped_zeros_out s a n rights b m out = mapped_same _ _ b m (λ k less. ap is_some (get_zeros_out s a n rights (b + k) (λ low. omega (arith, out (omega arith)))))
 
 -- ---- answers
 pub none_of_ok : {A : Type 0} (value other : A) (fault : Option MemFault) → Ok other ≡ answer_of value fault → fault ≡ None

@@ -2,3 +2,4 @@ pub mod Laws
 pub mod Mapped
 pub mod RegionList
 pub mod Runs
+pub mod SpaceLaws

@@ -1,18 +1,17 @@
 -- The map of a list of regions: its look-up, and what a write and a new region make of it.
-use Rattle.std.proofs.Common.{◌≡◌, ℕ, zero, suc, ◌+◌, ◌-◌, ◌^◌, ◌<◌, ◌≤◌, true, false, nat_lt, List, [], ◌∷◌, ◌++◌, length, get_or, replicate, Option, None, Some, Result, Ok, Err, OnOk, is_some, refl, sym, ap, ◌∙◌, subst, inl, inr, arith}
+use Rattle.std.proofs.Common.{◌≡◌, ℕ, zero, suc, ◌+◌, ◌-◌, ◌^◌, ◌<◌, ◌≤◌, List, [], ◌∷◌, ◌++◌, length, get_or, replicate, Option, None, Some, Result, Ok, Err, OnOk, refl, sym, ap, ◌∙◌, subst, inl, inr, arith}
 use Rattle.std.specs.FinMap as map
 use Rattle.std.specs.Ordering.{nat_cmp}
 use Rattle.std.proofs.lemmas.Bool.{cases_eq, cases_lt}
-use Rattle.std.proofs.lemmas.Bool.Decides.{nat_tests}
 use Rattle.std.proofs.lemmas.List.{length-replicate, length-map}
 use Rattle.nd_mem.specs.declared.Rights.{Rights}
 use Rattle.nd_mem.specs.declared.MemFault.{MemFault}
-use Rattle.nd_mem.specs.declared.RegionRefusal.TheVariants.{Overlaps}
 use Rattle.nd_mem.specs.declared.regions.Region.{Region}
 use Rattle.nd_mem.specs.Cell.{Cell, cell_with}
-use Rattle.nd_mem.specs.Space.{Space, Cells, IsLow, Access, Executing, fault_at, first_fault, answer_of, put_from, zeros_from, region_refusal}
-use Rattle.nd_mem.specs.Regions.{cells_of, AreLaidOut, shape, shapes, insert_found, tabulated, mapped, IsRun, PutsBytes}
-use Rattle.nd_mem.proofs.Laws.{same_space, get_insert_same, get_insert_other, get_zeros_in, get_zeros_out, get_put_at, get_put_apart, fault_low, none_of_ok, mapped_none, mapped_at}
+use Rattle.nd_mem.specs.Space.{Space, Cells, IsLow, Access, Executing, fault_at, first_fault, answer_of, put_from, zeros_from}
+use Rattle.nd_mem.specs.Mapped.{insert_found, tabulated, mapped}
+use Rattle.nd_mem.specs.Regions.{cells_of, AreLaidOut, shape, shapes, IsRun, PutsBytes}
+use Rattle.nd_mem.proofs.Laws.{same_space, get_insert_same, get_insert_other, get_zeros_in, get_zeros_out, get_put_at, get_put_apart, fault_low, none_of_ok}
 use Rattle.nd_mem.proofs.RegionList.{cells_of-low, holds-true, holds-outside, AreLaidOut-push, zeros_push, others_push}
 
 get_found_other : (space : Space) (n x : ℕ) (found : Option Cell) → (x ≡ n → ⊥) → map.get (insert_found space n found) x ≡ map.get space x
@@ -49,7 +48,7 @@ get_mapped_cells cells none x =
       | inr above ↦ get_tabulated_above cells (2 ^ 32) x above ∙ sym (none x above)
     ]
 
-get_mapped_at : (regions : List Region) → AreLaidOut regions → (x : ℕ) → map.get (mapped (cells_of regions)) x ≡ cells_of regions x
+pub get_mapped_at : (regions : List Region) → AreLaidOut regions → (x : ℕ) → map.get (mapped (cells_of regions)) x ≡ cells_of regions x
 get_mapped_at regions laid_out x = get_mapped_cells (cells_of regions) (λ a above. cells_of-low regions laid_out a (omega arith)) x
 
 -- the look-up of the map is that of the regions
@@ -99,15 +98,6 @@ module _ (regions : List Region) (region : Region) (at len : ℕ) (rights : Righ
       ∙ sym (get_zeros_in (mapped (cells_of regions)) at len rights x above below) in
       same_space _ _ (λ x. get_mapped_at (regions ++ region ∷ []) pushed_laid_out x
       ∙ at_run at len (λ y. cells_of (regions ++ region ∷ []) y ≡ map.get (zeros_from (mapped (cells_of regions)) at len rights) y) x inside outside)
-
-not_high : (end : ℕ) → end ≤ 0xF0000000 → nat_lt 0xF0000000 end ≡ false
-not_high end low = grind (arith, nat_tests)
-
-pub refusal_none : (cells : Cells) (a n : ℕ) → a + n ≤ 0xF0000000 → ((x : ℕ) → a ≤ x → x < a + n → cells x ≡ None) → region_refusal cells a n ≡ None
-refusal_none cells a n low free = rw (not_high (a + n) low, mapped_none cells a n (λ k less. free (a + k) (omega arith) (omega arith)))
-
-pub refusal_overlap : (cells : Cells) (a n x : ℕ) → a + n ≤ 0xF0000000 → a ≤ x → x < a + n → ((y : ℕ) → a ≤ y → y < x → cells y ≡ None) → is_some (cells x) ≡ true → region_refusal cells a n ≡ Some (Overlaps (record { 0 = x }))
-refusal_overlap cells a n x low above below before some = rw (not_high (a + n) low, mapped_at cells a n x above below before some)
 
 -- what the view of a memory has, where its regions are known
 pub cells_seen : (regions items : List Region) (value : Space) → mapped (cells_of items) ≡ value → regions ≡ items → AreLaidOut items → map.get value ≡ cells_of regions

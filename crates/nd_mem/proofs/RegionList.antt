@@ -6,13 +6,14 @@ use Rattle.std.proofs.lemmas.Bool.Decides.{nat_tests}
 use Rattle.std.proofs.lemmas.Iterator.Adapters.{position_from-zero}
 use Rattle.std.proofs.lemmas.List.Quantifiers.{position-Some}
 use Rattle.std.proofs.lemmas.List.{map-set, set-get_or, get_or-map, get_or-drop, length-drop, length-take, get_or-take, get_or_read, length-map, get_or_append_left, get_or-append_right, length-take-le, length-append, get_or-set_same, length-replicate, get_or-replicate}
+use Rattle.std.specs.Option.{option_or}
 use Rattle.nd_base.specs.declared.numbers.Addr.{Addr}
 use Rattle.nd_mem.specs.declared.Rights.{Rights}
 use Rattle.nd_mem.specs.declared.MemFault.{MemFault}
 use Rattle.nd_mem.specs.declared.regions.Region.{Region}
 use Rattle.nd_mem.specs.declared.regions.Spot.{Spot}
 use Rattle.nd_mem.specs.Cell.{Cell, zero_cell, cell_with}
-use Rattle.nd_mem.specs.Space.{Cells, Access, allows, denied, fault_in, fault_at, either_of, byte_in}
+use Rattle.nd_mem.specs.Space.{Cells, Access, allows, denied, fault_in, fault_at, byte_in}
 use Rattle.nd_mem.specs.Regions.{holds, cell_in, cells_of, AreLaidOut, shape, shapes, allowed_or, IsSpot, IsRun, PutsBytes}
 use Rattle.nd_mem.proofs.Laws.{wrapped_below}
 
@@ -275,27 +276,27 @@ shape-put region old o bytes first rights written fits =
     λ i. ((first i).0, len i, rights i)
 
 -- ---- one more region at the end
-either_if : (here : Bool) (cell : Cell) (rest last : Option Cell) → (if here then Some cell else either_of rest last) ≡ either_of (if here then Some cell else rest) last
+either_if : (here : Bool) (cell : Cell) (rest last : Option Cell) → (if here then Some cell else option_or rest last) ≡ option_or (if here then Some cell else rest) last
 either_if true cell rest last = refl
 either_if false cell rest last = refl
 
-pub cells_of-push : (regions : List Region) (region : Region) (x : ℕ) → cells_of (regions ++ region ∷ []) x ≡ either_of (cells_of regions x) (if holds region x then Some (cell_in region x) else None)
+pub cells_of-push : (regions : List Region) (region : Region) (x : ℕ) → cells_of (regions ++ region ∷ []) x ≡ option_or (cells_of regions x) (if holds region x then Some (cell_in region x) else None)
 cells_of-push [] region x = refl
 cells_of-push (r ∷ regions) region x =
     ap (λ rest. if holds r x then Some (cell_in r x) else rest) (cells_of-push regions region x)
     ∙ either_if (holds r x) (cell_in r x) (cells_of regions x) _
 
-either_some : (found last : Option Cell) → is_some found ≡ true → is_some (either_of found last) ≡ true
+either_some : (found last : Option Cell) → is_some found ≡ true → is_some (option_or found last) ≡ true
 either_some None last some = absurd (false≢true some)
 either_some (Some cell) last some = refl
 
-either_last : (found : Option Cell) (cell : Cell) → is_some (either_of found (Some cell)) ≡ true
+either_last : (found : Option Cell) (cell : Cell) → is_some (option_or found (Some cell)) ≡ true
 either_last None cell = refl
 either_last (Some found) cell = refl
 
-either_of_none : (found : Option Cell) → either_of found None ≡ found
-either_of_none None = refl
-either_of_none (Some cell) = refl
+option_or_none : (found : Option Cell) → option_or found None ≡ found
+option_or_none None = refl
+option_or_none (Some cell) = refl
 
 pub none_push : (regions : List Region) (region : Region) (x : ℕ) → cells_of regions x ≡ None → holds region x ≡ false → cells_of (regions ++ region ∷ []) x ≡ None
 none_push regions region x none unheld = cells_of-push regions region x ∙ rw (none, unheld)
@@ -330,7 +331,7 @@ zeros_push regions region at len x rights first zeros same none low high =
     ∙ ap (λ (r : Rights). Some (zero_cell r)) same)
 
 pub others_push : (regions : List Region) (region : Region) (x : ℕ) → holds region x ≡ false → cells_of (regions ++ region ∷ []) x ≡ cells_of regions x
-others_push regions region x unheld = cells_of-push regions region x ∙ rw unheld (either_of_none (cells_of regions x))
+others_push regions region x unheld = cells_of-push regions region x ∙ rw unheld (option_or_none (cells_of regions x))
 
 pub holds-outside : (region : Region) (a : ℕ) → (region.first.0 ≤ a → region.first.0 + length region.bytes.items ≤ a) → holds region a ≡ false
 holds-outside region a out =

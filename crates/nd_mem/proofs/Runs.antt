@@ -1,8 +1,9 @@
 -- An access to a run of one region, and to what stands behind it.
 use Rattle.std.proofs.Common.{◌≡◌, ℕ, zero, suc, ◌+◌, ◌<◌, ◌≤◌, List, [], ◌∷◌, ◌++◌, length, take, drop, Option, None, Some, refl, sym, ap, ◌∙◌, arith}
 use Rattle.std.proofs.lemmas.List.{length-take-le, get_or-take}
+use Rattle.std.specs.Option.{option_or}
 use Rattle.nd_mem.specs.declared.MemFault.{MemFault}
-use Rattle.nd_mem.specs.Space.{Cells, Access, Executing, fault_at, either_of, first_fault, byte_in, bytes_from, run_after, executable_run}
+use Rattle.nd_mem.specs.Space.{Cells, Access, Executing, fault_at, first_fault, byte_in, bytes_from, run_after, executable_run}
 use Rattle.nd_mem.specs.Regions.{IsRun}
 use Rattle.nd_mem.proofs.Laws.{wrapped_below, fault_split, fault_none, bytes_split, bytes_are}
 
@@ -11,7 +12,7 @@ pub fault_behind : (access : Access) (cells : Cells) (a : ℕ) (run : List ℕ) 
 fault_behind access cells a run m k n is inside fits =
     ap (first_fault access cells a) fits
     ∙ fault_split access cells a m k
-    ∙ ap (λ x. either_of x (first_fault access cells (a + m) k)) (fault_none access cells a m (λ j less. is.allowed j (omega arith)))
+    ∙ ap (λ x. option_or x (first_fault access cells (a + m) k)) (fault_none access cells a m (λ j less. is.allowed j (omega arith)))
 
 pub fault_first : (access : Access) (cells : Cells) (a n : ℕ) (fault : MemFault) → fault_at access cells a ≡ Some fault → 0 < n → first_fault access cells a n ≡ Some fault
 unfolding first_fault

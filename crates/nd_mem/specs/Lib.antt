@@ -1,3 +1,5 @@
 pub mod Cell
+pub mod Laws
+pub mod Mapped
 pub mod Regions
 pub mod Space

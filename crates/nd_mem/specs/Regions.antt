@@ -1,7 +1,6 @@
--- A list of regions as guest memory: what it has at each address, and the map of that.
-use Rattle.std.specs.Prelude.{◌≡◌, ℕ, zero, suc, ◌+◌, ◌-◌, ◌≤◌, ◌<◌, ◌^◌, Bool, true, false, ◌&&◌, nat_le, nat_lt, if◌then◌else◌, List, [], ◌∷◌, map, length, slice_index, Option, None, Some, Result, Ok, Err}
+-- A list of regions as guest memory: what it has at each address.
+use Rattle.std.specs.Prelude.{◌≡◌, ℕ, ◌+◌, ◌-◌, ◌≤◌, ◌<◌, Bool, true, false, ◌&&◌, nat_le, nat_lt, if◌then◌else◌, List, [], ◌∷◌, map, length, slice_index, None, Some, Result, Ok, Err}
 use Rattle.std.specs.List.{HoldsAt}
-use Rattle.std.specs.FinMap as finite
 use Rattle.nd_base.specs.declared.numbers.Addr.{Addr}
 use Rattle.nd_mem.specs.declared.Rights.{Rights}
 use Rattle.nd_mem.specs.declared.MemFault.{MemFault}
@@ -10,7 +9,7 @@ use Rattle.nd_mem.specs.declared.regions.Spot.{Spot}
 use Rattle.nd_mem.specs.declared.regions.Purpose.{Purpose}
 use Rattle.nd_mem.specs.declared.regions.Purpose.TheVariants.{Place, Read, Write, Execute}
 use Rattle.nd_mem.specs.Cell.{Cell, cell_with}
-use Rattle.nd_mem.specs.Space.{Space, Cells, Access, allows, denied, Any, Reading, Writing, Executing, fault_at, byte_in}
+use Rattle.nd_mem.specs.Space.{Cells, Access, allows, denied, Any, Reading, Writing, Executing, fault_at, byte_in}
 
 -- whether an address is one of a region's
 abbrev pub holds : Region → ℕ → Bool
@@ -40,19 +39,6 @@ shape region = (region.first.0, length region.bytes.items, region.rights)
 
 abbrev pub shapes : List Region → List (ℕ × ℕ × Rights)
 shapes regions = map shape regions
-
--- the map of a look-up below a bound
-abbrev pub insert_found : Space → ℕ → Option Cell → Space
-insert_found space a None = space
-insert_found space a (Some cell) = finite.insert space a cell
-
-unfoldable pub tabulated : Cells → ℕ → Space
-tabulated cells zero = finite.empty
-tabulated cells (suc n) = insert_found (tabulated cells n) n (cells n)
-
--- the map of a look-up that finds nothing above the last address
-unfoldable pub mapped : Cells → Space
-mapped cells = tabulated cells (2 ^ 32)
 
 abbrev pub access_of : Purpose → Access
 access_of Place = Any

@@ -2,6 +2,7 @@
 -- way of keeping it. Addresses go on by one and are wrapped, from 0xFFFFFFFF to 0, only where they are looked up.
 use Rattle.std.specs.Prelude.{◌≡◌, ◌≤◌, ℕ, zero, suc, ◌+◌, ◌%◌, ◌^◌, Bool, true, nat_lt, if◌then◌else◌, List, [], ◌∷◌, Option, None, Some, Result, Ok, Err, is_some}
 use Rattle.std.specs.Ordering.{nat_cmp}
+use Rattle.std.specs.Option.{option_or}
 use Rattle.std.specs.FinMap as map
 use Rattle.nd_base.specs.declared.numbers.Addr.{Addr}
 use Rattle.nd_mem.specs.declared.Rights.{Rights}
@@ -56,15 +57,10 @@ fault_in access a (Some cell) = if allows access cell.rights then None else Some
 abbrev pub fault_at : Access → Cells → ℕ → Option MemFault
 fault_at access cells a = fault_in access (address (wrapped a)) (cells (wrapped a))
 
--- the first value there is
-abbrev pub either_of : {A : Type 0} → Option A → Option A → Option A
-either_of None other = other
-either_of (Some x) other = Some x
-
 -- the fault at the first of n addresses that is not mapped or lacks the right
 unfoldable pub first_fault : Access → Cells → ℕ → ℕ → Option MemFault
 first_fault access cells a zero = None
-first_fault access cells a (suc n) = either_of (fault_at access cells a) (first_fault access cells (a + 1) n)
+first_fault access cells a (suc n) = option_or (fault_at access cells a) (first_fault access cells (a + 1) n)
 
 -- the answer of an access that nothing but a fault refuses
 abbrev pub answer_of : {A : Type 0} → A → Option MemFault → Result A MemFault

@@ -11,6 +11,9 @@ use std::alloc::Global;
 use std::marker::Model;
 
 mod regions;
+mod space_laws;
+
+pub use space_laws::{fault_laws, fetch_laws, look_up_laws, read_laws, region_laws, write_laws};
 
 /// The first address that no region may hold: from here on stand addresses that are served in
 /// place of memory.
@@ -60,7 +63,8 @@ impl Model for Memory {
 
     ghost coded = { map.code coded_ℕ cell_code };
 
-    ghost use Rattle.nd_mem.specs.Regions.{cells_of, mapped, AreLaidOut};
+    ghost use Rattle.nd_mem.specs.Mapped.{mapped};
+    ghost use Rattle.nd_mem.specs.Regions.{cells_of, AreLaidOut};
 
     ghost view = { λ m. mapped (cells_of m.regions.items) };
 
@@ -68,6 +72,13 @@ impl Model for Memory {
 }
 
 impl Memory {
+    /// Nothing is ever mapped from 0xF0000000 on.
+    pub fn is_low(&self)
+        ensures { IsLow (map.get self.now) }
+    {
+        let _regions = &self.regions;
+    }
+
     /// Nothing is mapped.
     pub fn new(alloc: Global) -> Self
         ensures { result ≡ map.empty }
@@ -108,14 +119,8 @@ impl Memory {
         ensures err { OnErr result (self.new ≡ self.old) }
         ensures low { OnOk result (IsLow (map.get self.new)) }
     {
-        let end = u64::from(at.0) + u64::from(len);
-        if end > END {
-            return Err(RegionRefusal::High);
-        }
-        let end = end as u32;
-        let first = regions::first_held(&self.regions, at.0, end);
-        if first < end {
-            return Err(RegionRefusal::Overlaps(Addr(first)));
+        if let Some(refusal) = self.region_refusal(at, len) {
+            return Err(refusal);
         }
         let Ok(region) = Region::zeroed(alloc, at, len, rights) else {
             return Err(RegionRefusal::OutOfMemory);
@@ -167,97 +172,5 @@ impl Memory {
     {
         let run = regions::run_from(&self.regions, Purpose::Execute, at)?;
         Ok(regions::fetch_runs(&self.regions, at, run, out))
-    }
-}
-
-#[cfg(test)]
-mod tests {
-    use super::*;
-    use std::test::Fail;
-
-    const ALL: Rights = Rights {
-        read: true,
-        write: true,
-        execute: true,
-    };
-
-    const READ_ONLY: Rights = Rights {
-        read: true,
-        write: false,
-        execute: false,
-    };
-
-    #[test]
-    fn a_write_goes_on_in_the_next_region(rt: HostRuntime) -> Result<(), Fail> {
-        let mut memory = Memory::new(rt.alloc());
-        memory.add_region(rt.alloc(), Addr(0x1010), 16, ALL)?;
-        memory.add_region(rt.alloc(), Addr(0x1000), 16, ALL)?;
-        memory.write(Addr(0x100E), &[1, 2, 3, 4])?;
-        let mut out = [9; 6];
-        memory.read(Addr(0x100D), &mut out)?;
-        assert_eq!(rt; out.as_slice(), [0, 1, 2, 3, 4, 0].as_slice());
-        Ok(())
-    }
-
-    #[test]
-    fn a_refused_write_changes_nothing(rt: HostRuntime) -> Result<(), Fail> {
-        let mut memory = Memory::new(rt.alloc());
-        memory.add_region(rt.alloc(), Addr(0x1000), 4, ALL)?;
-        memory.add_region(rt.alloc(), Addr(0x1004), 4, READ_ONLY)?;
-        let refused = memory.write(Addr(0x1002), &[1, 2, 3, 4]);
-        assert_eq!(rt; refused, Err(MemFault::NotWritable(Addr(0x1004))));
-        let mut out = [9; 4];
-        memory.read(Addr(0x1002), &mut out)?;
-        assert_eq!(rt; out.as_slice(), [0, 0, 0, 0].as_slice());
-        memory.place(Addr(0x1002), &[1, 2, 3, 4])?;
-        memory.read(Addr(0x1002), &mut out)?;
-        assert_eq!(rt; out.as_slice(), [1, 2, 3, 4].as_slice());
-        Ok(())
-    }
-
-    #[test]
-    fn addresses_wrap(rt: HostRuntime) -> Result<(), Fail> {
-        let mut memory = Memory::new(rt.alloc());
-        memory.add_region(rt.alloc(), Addr(0), 4, ALL)?;
-        let mut out = [9; 2];
-        let refused = memory.read(Addr(0xFFFF_FFFF), &mut out);
-        assert_eq!(rt; refused, Err(MemFault::Unmapped(Addr(0xFFFF_FFFF))));
-        assert_eq!(rt; out.as_slice(), [9, 9].as_slice());
-        Ok(())
-    }
-
-    #[test]
-    fn a_fetch_ends_with_its_region(rt: HostRuntime) -> Result<(), Fail> {
-        let mut memory = Memory::new(rt.alloc());
-        memory.add_region(rt.alloc(), Addr(0x2000), 20, ALL)?;
-        memory.add_region(rt.alloc(), Addr(0x2014), 4, READ_ONLY)?;
-        memory.place(Addr(0x2012), &[0xC3, 0x90, 7])?;
-        let mut code = [9; 15];
-        assert_eq!(rt; memory.fetch(Addr(0x2000), &mut code), Ok(15));
-        assert_eq!(rt; memory.fetch(Addr(0x2012), &mut code), Ok(2));
-        assert_eq!(rt;
-            code.as_slice(),
-            [0xC3, 0x90, 0, 0, 0, 0, 0, 0, 0, 0, 0, 0, 0, 0, 0].as_slice()
-        );
-        let refused = memory.fetch(Addr(0x2014), &mut code);
-        assert_eq!(rt; refused, Err(MemFault::NotExecutable(Addr(0x2014))));
-        Ok(())
-    }
-
-    #[test]
-    fn regions_are_apart_and_low(rt: HostRuntime) -> Result<(), Fail> {
-        let mut memory = Memory::new(rt.alloc());
-        memory.add_region(rt.alloc(), Addr(0x1000), 16, ALL)?;
-        let before = memory.add_region(rt.alloc(), Addr(0x0FF8), 32, ALL);
-        assert_eq!(rt; before, Err(RegionRefusal::Overlaps(Addr(0x1000))));
-        let inside = memory.add_region(rt.alloc(), Addr(0x1008), 32, ALL);
-        assert_eq!(rt; inside, Err(RegionRefusal::Overlaps(Addr(0x1008))));
-        let high = memory.add_region(rt.alloc(), Addr(0xEFFF_FFFF), 2, ALL);
-        assert_eq!(rt; high, Err(RegionRefusal::High));
-        memory.add_region(rt.alloc(), Addr(0xEFFF_FFFF), 1, ALL)?;
-        let mut out = [9; 1];
-        let unmapped = memory.read(Addr(0x1010), &mut out);
-        assert_eq!(rt; unmapped, Err(MemFault::Unmapped(Addr(0x1010))));
-        Ok(())
     }
 }

@@ -9,7 +9,7 @@ use Rattle.printed_lines.specs.ImageLines.{image_line}
 use Rattle.printed_lines.specs.ParameterLines.{inf_line}
 use Rattle.pe_image.specs.Image.{ImageParts, ImportParts}
 use Rattle.ndis_run.specs.Shown.{answer, judged, served, shown_image, shown_inf}
-use Rattle.ndis_run.specs.Tool.{IsRefusalLine}
+use Rattle.ndis_run.specs.RunZero.{IsRefusalLine}
 
 too_large : (bytes : List ℕ) → 0x400000 < length bytes → reading bytes ≡ Err TooLarge
 unfolding reading

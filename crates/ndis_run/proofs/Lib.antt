@@ -1,5 +1,6 @@
 pub mod EndsLaws
 pub mod Judging
+pub mod Lines
+pub mod Logging
 pub mod Pieces
-pub mod Told
 pub mod Utf16

@@ -4,7 +4,6 @@ use Rattle.std.specs.FinMap.{insert}
 use Rattle.std.proofs.Math.Seq.{take-add}
 use Rattle.std.proofs.lemmas.List.{length-take, take_min}
 use Rattle.nd_base.specs.Files.{Kept, bytes_at}
-use Rattle.nd_base.proofs.FileCalls.{insert-insert, bytes_at-insert}
 
 take_take : (n k : ℕ) (xs : List ℕ) → n ≤ k → take n (take k xs) ≡ take n xs
 take_take zero k xs less = refl
@@ -29,11 +28,12 @@ printed_more told first bytes done n k less is =
     is ∙ ap Some (append_assoc first (take done bytes) (take n (take k (drop done bytes))) ∙ ap (λ xs. first ++ xs) (front_more bytes done n k less))
 
 -- the file so far, after one more append
-pub appended_more : (told : Option Kept) (m : Kept) (name bytes : List ℕ) (done n k : ℕ) → n ≤ k
+pub appended_more : ((files : Kept) (name bytes : List ℕ) → bytes_at (insert files name bytes) name ≡ bytes) → ((files : Kept) (name first last : List ℕ) → insert (insert files name first) name last ≡ insert files name last)
+    → (told : Option Kept) (m : Kept) (name bytes : List ℕ) (done n k : ℕ) → n ≤ k
     → told ≡ Some (insert (insert m name (take done bytes)) name (bytes_at (insert m name (take done bytes)) name ++ take n (take k (drop done bytes))))
     → told ≡ Some (insert m name (take (done + n) bytes))
-appended_more told m name bytes done n k less is =
-    is ∙ ap Some (insert-insert m name _ _ ∙ ap (insert m name) (ap (λ xs. xs ++ take n (take k (drop done bytes))) (bytes_at-insert m name (take done bytes)) ∙ front_more bytes done n k less))
+appended_more set last told m name bytes done n k less is =
+    is ∙ ap Some (last m name _ _ ∙ ap (insert m name) (ap (λ xs. xs ++ take n (take k (drop done bytes))) (set m name (take done bytes)) ∙ front_more bytes done n k less))
 
 take_own : (k : ℕ) (file xs : List ℕ) → xs ≡ take k file → xs ≡ take (length xs) file
 take_own k file xs is =

@@ -1,4 +1,8 @@
+pub mod Devices
 pub mod Printed
+pub mod Prints
+pub mod RunZero
+pub mod Showing
 pub mod Shown
 pub mod Tool
 pub mod Transfer

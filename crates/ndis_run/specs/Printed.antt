@@ -21,6 +21,10 @@ read_line name = line (codes "read" ∷ name ∷ [])
 abbrev pub write_line : List ℕ → List ℕ
 write_line name = line (codes "write" ∷ name ∷ [])
 
+-- the line that is tried where memory is wanted
+abbrev pub memory_line : List ℕ
+memory_line = codes "memory\n"
+
 -- what `--help` prints: a line for each form of words
 abbrev pub help_text : List ℕ
 help_text = codes "run0 SYS LOG     run the DriverEntry of the driver image SYS alone, and write its log to LOG\n"

@@ -15,6 +15,11 @@ Adds old new bytes = (before : List ℕ) → old ≡ Some before → new ≡ Som
 abbrev pub AddsFront : Option (List ℕ) → Option (List ℕ) → List ℕ → Type 0
 AddsFront old new bytes = (before : List ℕ) → old ≡ Some before → (n : ℕ) × (n ≤ length bytes) × (new ≡ Some (before ++ take n bytes))
 
+-- where what was written is told, a front of a line was added, and then a front of a last one
+abbrev pub AddsFronts : Option (List ℕ) → Option (List ℕ) → List ℕ → List ℕ → Type 0
+AddsFronts old new line last = (before : List ℕ) → old ≡ Some before
+    → (n : ℕ) × (k : ℕ) × (n ≤ length line) × (k ≤ length last) × (new ≡ Some (before ++ take n line ++ take k last))
+
 -- where the files are told, one name now has these bytes, and no other changed
 abbrev pub Writes : Option Kept → Option Kept → List ℕ → List ℕ → Type 0
 Writes old new name bytes = (m : Kept) → old ≡ Some m → new ≡ Some (insert m name bytes)

@@ -1,48 +1,58 @@
 -- The forms of words: what a command line may say. No list of words has two forms. (The project's own: docs/PRINTED.md.)
-use Rattle.std.specs.Prelude.{◌≡◌, ℕ, ◌⊎◌, Bool, false, List, [], ◌∷◌, codes, nat_eq}
+use Rattle.std.specs.Prelude.{◌≡◌, ℕ, Bool, false, List, [], ◌∷◌, codes, nat_eq}
 use Rattle.std.specs.List.{starts_with}
 use Rattle.ndis_run.specs.declared.words.Command.{Command}
-use Rattle.ndis_run.specs.declared.words.Command.TheVariants.{Help, Version, RunZero, ShowImage, ShowInf}
+use Rattle.ndis_run.specs.declared.words.Command.TheVariants as command
 
--- a name does not begin with `--`
+-- a form of words: a command, with its operands as texts
+pub data Form : Type 0 where
+  Help : Form
+  Version : Form
+  -- `run0 SYS LOG`
+  RunZero : List ℕ → List ℕ → Form
+  -- `show-image SYS`
+  ShowImage : List ℕ → Form
+  -- `show-inf INF ID`
+  ShowInf : List ℕ → List ℕ → Form
+
+-- an operand does not begin with `--`
 abbrev pub is_option : List ℕ → Bool
 is_option word = starts_with nat_eq word (codes "--")
 
-abbrev pub IsHelp : List (List ℕ) → Type 0
-IsHelp words = words ≡ codes "--help" ∷ []
+abbrev pub IsOperand : List ℕ → Type 0
+IsOperand word = is_option word ≡ false
 
-abbrev pub IsVersion : List (List ℕ) → Type 0
-IsVersion words = words ≡ codes "--version" ∷ []
+-- the words have the form
+abbrev pub IsForm : Form → List (List ℕ) → Type 0
+IsForm Help words = words ≡ codes "--help" ∷ []
+IsForm Version words = words ≡ codes "--version" ∷ []
+IsForm (RunZero sys log) words = (words ≡ codes "run0" ∷ sys ∷ log ∷ []) × IsOperand sys × IsOperand log
+IsForm (ShowImage sys) words = (words ≡ codes "show-image" ∷ sys ∷ []) × IsOperand sys
+IsForm (ShowInf inf id) words = (words ≡ codes "show-inf" ∷ inf ∷ id ∷ []) × IsOperand inf × IsOperand id
 
--- `run0 SYS LOG`
-pub record IsRunZero (words : List (List ℕ)) (sys log : List ℕ) : Type 0 where
-  pub form : words ≡ codes "run0" ∷ sys ∷ log ∷ []
-  pub sys_name : is_option sys ≡ false
-  pub log_name : is_option log ≡ false
+-- a command's form
+abbrev pub form_of : Command → Form
+form_of command.Help = Help
+form_of command.Version = Version
+form_of (command.RunZero sys log) = RunZero sys.now log.now
+form_of (command.ShowImage sys) = ShowImage sys.now
+form_of (command.ShowInf inf id) = ShowInf inf.now id.now
 
--- `show-image SYS`
-pub record IsShowImage (words : List (List ℕ)) (sys : List ℕ) : Type 0 where
-  pub form : words ≡ codes "show-image" ∷ sys ∷ []
-  pub sys_name : is_option sys ≡ false
+-- a command of this form reads the file of this name
+abbrev pub Reads : Form → List ℕ → Type 0
+Reads (RunZero sys log) name = name ≡ sys
+Reads (ShowImage sys) name = name ≡ sys
+Reads (ShowInf inf id) name = name ≡ inf
+Reads _ name = ⊥
 
--- `show-inf INF ID`
-pub record IsShowInf (words : List (List ℕ)) (inf id : List ℕ) : Type 0 where
-  pub form : words ≡ codes "show-inf" ∷ inf ∷ id ∷ []
-  pub inf_name : is_option inf ≡ false
-  pub id_name : is_option id ≡ false
+-- a command of this form makes the file of this name
+abbrev pub Makes : Form → List ℕ → Type 0
+Makes (RunZero sys log) name = name ≡ log
+Makes _ name = ⊥
 
--- the words are of the command's form
-abbrev pub IsForm : Command → List (List ℕ) → Type 0
-IsForm Help words = IsHelp words
-IsForm Version words = IsVersion words
-IsForm RunZero words = (sys : List ℕ) × (log : List ℕ) × IsRunZero words sys log
-IsForm ShowImage words = (sys : List ℕ) × IsShowImage words sys
-IsForm ShowInf words = (inf : List ℕ) × (id : List ℕ) × IsShowInf words inf id
-
--- the command reads the file of this name
+-- the words are those of a command that reads, or that makes, the file of this name
 abbrev pub IsInput : List (List ℕ) → List ℕ → Type 0
-IsInput words name = ((log : List ℕ) × IsRunZero words name log) ⊎ IsShowImage words name ⊎ ((id : List ℕ) × IsShowInf words name id)
+IsInput words name = (form : Form) × IsForm form words × Reads form name
 
--- the command makes the file of this name
 abbrev pub IsOutput : List (List ℕ) → List ℕ → Type 0
-IsOutput words name = (sys : List ℕ) × IsRunZero words sys name
+IsOutput words name = (form : Form) × IsForm form words × Makes form name

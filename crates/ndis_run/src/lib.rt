@@ -7,6 +7,7 @@ pub mod printing;
 pub mod real_devices;
 pub mod run_zero;
 pub mod show;
+pub mod system_calls;
 pub mod tool;
 pub mod transfer;
 pub mod words;
@@ -14,8 +15,3 @@ pub mod words;
 pub use ndis::ndis_main;
 pub use real_devices::{RealFiles, RealSink};
 pub use tool::tool_main;
-
-#[cfg(test)]
-mod bytewise;
-#[cfg(test)]
-mod tests;

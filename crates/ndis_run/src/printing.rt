@@ -1,20 +1,22 @@
 //! What is printed at a command's end.
 
-ghost use Rattle.std.specs.Prelude.{◌≡◌, ◌≢◌, ℕ, ◌<◌, ◌≤◌, ◌⊎◌, IfOk, string_bytes, codes, List};
-ghost use Rattle.nd_base.specs.Files.{Rose};
-ghost use Rattle.ndis_run.specs.Transfer.{Adds, AddsFront};
-ghost use Rattle.ndis_run.specs.Tool.{BreaksOff, status_of};
-ghost use Rattle.ndis_run.specs.Printed.{driver_entry_line, ending_text, read_line, write_line};
+ghost use Rattle.std.specs.Prelude.{◌≡◌, ◌≤◌, IfOk, string_bytes, codes};
+ghost use Rattle.ndis_run.specs.Devices.{output};
+ghost use Rattle.ndis_run.specs.Transfer.{AddsFront};
+ghost use Rattle.ndis_run.specs.Prints.{Tells, TellsMemory, TellsUnwritten};
+ghost use Rattle.ndis_run.specs.RunZero.{status_of};
+ghost use Rattle.ndis_run.specs.Printed.{driver_entry_line, ending_text, memory_line, read_line, write_line};
 
 use crate::transfer::print;
 use driver_entry::Ending;
+use nd_base::laws::{hex_digits_are_padded, risen_counts_stay_risen};
 use nd_base::{IoFault, Sink};
 use std::alloc::{AllocError, Global};
 
-#[tactic(auto, using(nd_base::proofs::Hex::padded_word))]
 fn ending_text(alloc: Global, ending: Ending) -> Result<String, AllocError>
     ensures { IfOk result (λ text. string_bytes text ≡ ending_text ending) }
 {
+    hex_digits_are_padded();
     match ending {
         Ending::Left(status) => {
             let status = status.0;
@@ -55,8 +57,7 @@ const NO_MEMORY: u8 = 10;
 
 /// Prints that no memory is left, as far as that can be printed.
 pub fn tell_memory<O: Sink>(out: &mut O) -> u8
-    ensures status { result ≡ 10 }
-    ensures front { AddsFront (O.written out.old) (O.written out.new) (codes "memory\n") }
+    ensures told { TellsMemory result (output O.Sink out.old) (output O.Sink out.new) }
     ensures later { O.faults out.old ≤ O.faults out.new }
 {
     let _ = print(out, b"memory\n");
@@ -75,13 +76,9 @@ fn tell_unprinted<O: Sink>(out: &mut O) -> u8
 
 /// Prints a text, and answers the status that goes with it.
 pub fn tell<O: Sink>(out: &mut O, text: &[u8], status: u8) -> u8
-    requires written { status ≢ 4 }
-    requires remembered { status ≢ 10 }
-    ensures known { (result ≡ status) ⊎ (result ≡ 4) ⊎ (result ≡ 10) }
-    ensures told { result ≡ status → Adds (O.written out.old) (O.written out.new) text.now }
-    ensures quiet { result ≡ status → O.faults out.new ≡ O.faults out.old }
-    ensures broke_off { (result ≡ 4) ⊎ (result ≡ 10) → BreaksOff text.now result (O.written out.old) (O.written out.new) (O.faults out.old) (O.faults out.new) }
+    ensures { Tells text.now status result (output O.Sink out.old) (output O.Sink out.new) }
 {
+    risen_counts_stay_risen();
     match print(out, text) {
         Ok(()) => status,
         Err(IoFault::Memory) => tell_memory(out),
@@ -89,32 +86,32 @@ pub fn tell<O: Sink>(out: &mut O, text: &[u8], status: u8) -> u8
     }
 }
 
-/// Prints how DriverEntry ended.
-pub fn tell_end<O: Sink>(alloc: Global, out: &mut O, ending: Ending, charged: u32) -> u8
-    ensures known { (result ≡ status_of ending) ⊎ (result ≡ 4) ⊎ (result ≡ 10) }
-    ensures told { result < 2 → Adds (O.written out.old) (O.written out.new) (driver_entry_line ending charged) }
-    ensures quiet { result < 2 → O.faults out.new ≡ O.faults out.old }
-    ensures broke_off { (result ≡ 4) ⊎ (result ≡ 10) → BreaksOff (driver_entry_line ending charged) result (O.written out.old) (O.written out.new) (O.faults out.old) (O.faults out.new) }
+/// The status of a run's end.
+fn status_of(ending: Ending) -> u8
+    ensures { result ≡ status_of ending }
 {
-    let status = match ending {
+    match ending {
         Ending::Left(_) => 0,
         Ending::Faulting => 1,
         Ending::Spent => 1,
-    };
+    }
+}
+
+/// Prints how DriverEntry ended.
+pub fn tell_end<O: Sink>(alloc: Global, out: &mut O, ending: Ending, charged: u32) -> u8
+    ensures { Tells (driver_entry_line ending charged) (status_of ending) result (output O.Sink out.old) (output O.Sink out.new) }
+{
     match driver_entry_line(alloc, ending, charged) {
-        Ok(line) => tell(out, line.as_bytes(), status),
+        Ok(line) => tell(out, line.as_bytes(), status_of(ending)),
         Err(_) => tell_memory(out),
     }
 }
 
-/// Prints that the image's file was not read.
-pub fn tell_unread<O: Sink>(alloc: Global, out: &mut O, sys: &str) -> u8
-    ensures known { (result ≡ 3) ⊎ (result ≡ 4) ⊎ (result ≡ 10) }
-    ensures told { result ≡ 3 → Adds (O.written out.old) (O.written out.new) (read_line sys.now) }
-    ensures quiet { result ≡ 3 → O.faults out.new ≡ O.faults out.old }
-    ensures broke_off { (result ≡ 4) ⊎ (result ≡ 10) → BreaksOff (read_line sys.now) result (O.written out.old) (O.written out.new) (O.faults out.old) (O.faults out.new) }
+/// Prints that a file was not read.
+pub fn tell_unread<O: Sink>(alloc: Global, out: &mut O, name: &str) -> u8
+    ensures { Tells (read_line name.now) 3 result (output O.Sink out.old) (output O.Sink out.new) }
 {
-    match read_line(alloc, sys) {
+    match read_line(alloc, name) {
         Ok(line) => tell(out, line.as_bytes(), UNREAD),
         Err(_) => tell_memory(out),
     }
@@ -122,9 +119,7 @@ pub fn tell_unread<O: Sink>(alloc: Global, out: &mut O, sys: &str) -> u8
 
 /// Prints that a file was not written.
 pub fn tell_unwritten<O: Sink>(alloc: Global, out: &mut O, name: &str) -> u8
-    ensures known { (result ≡ 4) ⊎ (result ≡ 10) }
-    ensures told { result ≡ 4 → (Rose (O.faults out.old) (O.faults out.new) → ⊥) → Adds (O.written out.old) (O.written out.new) (write_line name.now) }
-    ensures front { AddsFront (O.written out.old) (O.written out.new) (write_line name.now) ⊎ ((result ≡ 10) × AddsFront (O.written out.old) (O.written out.new) (codes "memory\n")) }
+    ensures { TellsUnwritten name.now result (output O.Sink out.old) (output O.Sink out.new) }
 {
     let Ok(line) = write_line(alloc, name) else {
         return tell_memory(out);
@@ -132,6 +127,6 @@ pub fn tell_unwritten<O: Sink>(alloc: Global, out: &mut O, name: &str) -> u8
     match print(out, line.as_bytes()) {
         Ok(()) => UNWRITTEN,
         Err(IoFault::Failed) => UNWRITTEN,
-        Err(IoFault::Memory) => NO_MEMORY,
+        Err(IoFault::Memory) => tell_memory(out),
     }
 }

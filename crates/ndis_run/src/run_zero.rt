@@ -9,7 +9,8 @@ ghost use Rattle.ndis_run.specs.Printed.{driver_entry_line, ending_text};
 ghost use Rattle.driver_entry.specs.Run.{Inputs};
 ghost use Rattle.ndis_run.specs.Transfer.{WritesFront};
 ghost use Rattle.ndis_run.specs.Shown.{served, judged};
-ghost use Rattle.ndis_run.specs.Tool.{HasRun, IsRefusalLine, Logs, LogsFront, TellsRefusal, usual};
+ghost use Rattle.ndis_run.specs.Devices.{storage};
+ghost use Rattle.ndis_run.specs.RunZero.{HasRun, IsRefusalLine, RunsAndLogs, usual};
 
 use crate::transfer::{ReadFailure, read_file, write_file};
 use driver_entry::{Ending, Session, text_of};
@@ -142,21 +143,16 @@ pub fn log_run<F: Files>(
 ) -> Result<Finished, Failure>
     requires readable { IsTrue (F.may_read files.old sys.now) }
     requires writable { IsTrue (F.may_write files.old log.now) }
-    ensures ran { IfOk result (λ finished. (m : Kept) → F.kept files.old ≡ Some m → Logs m sys.now log.now (F.kept files.new) finished.ending finished.charged) }
-    ensures refused { IfErr result (λ e. (line : List ℕ) → e ≡ Failure.Refused line → TellsRefusal sys.now (F.kept files.old) (F.kept files.new) line) }
-    ensures unread { IfErr result (λ e. e ≡ Failure.Unread → Rose (F.read_faults files.old) (F.read_faults files.new) × (F.kept files.new ≡ F.kept files.old)) }
-    ensures unwritten { IfErr result (λ e. e ≡ Failure.Unwritten → Rose (F.write_faults files.old) (F.write_faults files.new)) }
-    ensures quiet { OnOk result ((F.read_faults files.new ≡ F.read_faults files.old) × (F.write_faults files.new ≡ F.write_faults files.old)) }
-    ensures quiet_refusal { IfErr result (λ e. (line : List ℕ) → e ≡ Failure.Refused line
-        → (F.read_faults files.new ≡ F.read_faults files.old) × (F.write_faults files.new ≡ F.write_faults files.old)) }
-    ensures quiet_unread { IfErr result (λ e. e ≡ Failure.Unread → F.write_faults files.new ≡ F.write_faults files.old) }
-    ensures broke_off { OnErr result ((m : Kept) → F.kept files.old ≡ Some m → (F.kept files.new ≡ Some m) ⊎ LogsFront m sys.now log.now (F.kept files.new)) }
+    ensures { RunsAndLogs sys.now log.now result (storage F.Files files.old) (storage F.Files files.new) }
 {
     let image = match read_image(alloc, files, sys) {
         Ok(image) => image,
         Err(failure) => return Err(failure),
     };
-    let finished = run_image(alloc, &image)?;
+    let finished = match run_image(alloc, &image) {
+        Ok(finished) => finished,
+        Err(_) => return Err(Failure::Memory),
+    };
     match write_file(files, log, finished.text.as_bytes()) {
         Ok(()) => Ok(finished),
         Err(IoFault::Failed) => Err(Failure::Unwritten),

@@ -1,7 +1,8 @@
 //! `show-image SYS` and `show-inf INF ID`: what an input holds.
 
-ghost use Rattle.std.specs.Prelude.{◌≡◌, ℕ, ◌⊎◌, Some, IfOk, OnOk, IsErrOf, IsTrue};
-ghost use Rattle.nd_base.specs.Files.{Kept, bytes_at, Rose, OnlyReads};
+ghost use Rattle.std.specs.Prelude.{◌≡◌, ◌⊎◌, IfOk, IsTrue};
+ghost use Rattle.ndis_run.specs.Devices.{storage};
+ghost use Rattle.ndis_run.specs.Showing.{ReadsAndAnswers};
 ghost use Rattle.std.specs.List.{flat_map};
 ghost use Rattle.printed_lines.specs.ImageLines.{image_line};
 ghost use Rattle.printed_lines.specs.ParameterLines.{inf_line, parameters_line};
@@ -72,11 +73,7 @@ fn judge_image(alloc: Global, bytes: &[u8]) -> Result<Answer, OutOfMemory>
 #[tactic(auto, using(crate::proofs::Judging::shown_too_large))]
 pub fn show_image<F: Files>(alloc: Global, files: &mut F, sys: &str) -> Result<Answer, ShowFailure>
     requires { IsTrue (F.may_read files.old sys.now) }
-    ensures value { IfOk result (λ a. (m : Kept) → F.kept files.old ≡ Some m → answer a.status a.text ≡ shown_image (bytes_at m sys.now)) }
-    ensures status { IfOk result (λ a. (a.status ≡ 0) ⊎ (a.status ≡ 5)) }
-    ensures cause { IsErrOf result ShowFailure.Unread → Rose (F.read_faults files.old) (F.read_faults files.new) }
-    ensures quiet { OnOk result (F.read_faults files.new ≡ F.read_faults files.old) }
-    ensures only { OnlyReads F.kept F.read_faults F.write_faults F.may_read F.may_write files.old files.new }
+    ensures { ReadsAndAnswers shown_image 5 sys.now result (storage F.Files files.old) (storage F.Files files.new) }
 {
     match read_file(alloc, files, sys, IMAGE_LIMIT) {
         Ok(bytes) => Ok(judge_image(alloc, &bytes)?),
@@ -159,11 +156,7 @@ pub fn show_inf<F: Files>(
     id: &str,
 ) -> Result<Answer, ShowFailure>
     requires { IsTrue (F.may_read files.old inf.now) }
-    ensures value { IfOk result (λ a. (m : Kept) → F.kept files.old ≡ Some m → answer a.status a.text ≡ shown_inf id.now (bytes_at m inf.now)) }
-    ensures status { IfOk result (λ a. (a.status ≡ 0) ⊎ (a.status ≡ 6)) }
-    ensures cause { IsErrOf result ShowFailure.Unread → Rose (F.read_faults files.old) (F.read_faults files.new) }
-    ensures quiet { OnOk result (F.read_faults files.new ≡ F.read_faults files.old) }
-    ensures only { OnlyReads F.kept F.read_faults F.write_faults F.may_read F.may_write files.old files.new }
+    ensures { ReadsAndAnswers (shown_inf id.now) 6 inf.now result (storage F.Files files.old) (storage F.Files files.new) }
 {
     match read_file(alloc, files, inf, INF_LIMIT) {
         Ok(bytes) => Ok(judge_inf(alloc, &bytes, id)?),

@@ -4,6 +4,7 @@ ghost use Rattle.std.specs.Prelude.{◌≡◌, ◌≢◌, ℕ, ◌≤◌, ◌<�
 ghost use Rattle.nd_base.specs.Files.{Kept, bytes_at, Rose, OnlyReads, OnlyWrites};
 ghost use Rattle.ndis_run.specs.Transfer.{Adds, AddsFront, Writes, WritesFront};
 
+use nd_base::laws::{looks_add_up, set_files_are_kept, writes_add_up};
 use nd_base::{Files, IoFault, Sink};
 use std::alloc::{AllocError, Global};
 
@@ -35,6 +36,8 @@ pub fn write_file<F: Files>(files: &mut F, name: &str, bytes: &[u8]) -> Result<(
     ensures quiet { OnOk result (F.write_faults files.new ≡ F.write_faults files.old) }
     ensures only { OnlyWrites F.read_faults F.write_faults F.may_read F.may_write files.old files.new }
 {
+    writes_add_up::<F>();
+    set_files_are_kept();
     files.create(name)?;
     let mut done = 0;
     while done < bytes.len() {
@@ -109,6 +112,7 @@ fn read_on<F: Files>(
     ensures quiet_too_long { IsErrOf result ReadFailure.TooLong → F.read_faults files.new ≡ F.read_faults files.old }
     ensures only { OnlyReads F.kept F.read_faults F.write_faults F.may_read F.may_write files.old files.new }
 {
+    looks_add_up::<F>();
     let mut bytes = Vec::new(alloc);
     loop {
         let count = files.read(name, bytes.len() as u64, buffer)?;
@@ -140,6 +144,7 @@ pub fn read_file<F: Files>(
     ensures quiet_too_long { IsErrOf result ReadFailure.TooLong → F.read_faults files.new ≡ F.read_faults files.old }
     ensures only { OnlyReads F.kept F.read_faults F.write_faults F.may_read F.may_write files.old files.new }
 {
+    looks_add_up::<F>();
     let size = files.size(name)?;
     if size > limit as u64 {
         return Err(ReadFailure::TooLong);

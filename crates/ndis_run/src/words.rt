@@ -1,82 +1,82 @@
 //! What a command line may say.
 
-ghost use Rattle.std.specs.Prelude.{◌≡◌, ◌↔◌, ℕ, IsTrue, map, MatchOption, length, string_bytes, false};
-ghost use Rattle.ndis_run.specs.Words.{is_option, IsForm};
+ghost use Rattle.std.specs.Prelude.{◌≡◌, ◌↔◌, ℕ, List, IsTrue, [], ◌∷◌, map, MatchOption, string_bytes};
+ghost use Rattle.ndis_run.specs.Words.{Form, IsForm, IsOperand, form_of};
 
-/// The command that words spell.
+/// A command, with its operands.
 #[derive(Clone, Copy, Debug, PartialEq, Eq)]
-pub enum Command {
+pub enum Command<'a> {
     /// `--help`: lists the commands.
     Help,
     /// `--version`: names the program and its version.
     Version,
     /// `run0 SYS LOG`: runs DriverEntry alone.
-    RunZero,
+    RunZero { sys: &'a str, log: &'a str },
     /// `show-image SYS`: prints what a driver's image holds.
-    ShowImage,
+    ShowImage { sys: &'a str },
     /// `show-inf INF ID`: prints the parameters of a hardware id.
-    ShowInf,
+    ShowInf { inf: &'a str, id: &'a str },
 }
 
-fn is_word(word: &String, text: &str) -> bool
-    ensures { IsTrue result ↔ (string_bytes word.now ≡ text.now) }
+fn is_operand(word: &str) -> bool
+    ensures { IsTrue result ↔ IsOperand word.now }
 {
-    word.as_str() == text
+    !word.starts_with("--")
 }
 
-fn is_name(word: &String) -> bool
-    ensures { IsTrue result ↔ (is_option (string_bytes word.now) ≡ false) }
+/// The command of one word.
+fn command_alone<'a>(word: &'a str) -> Option<Command<'a>>
+    ensures { MatchOption result ((form : Form) → IsForm form (word.now ∷ []) → ⊥) (λ command. IsForm (form_of command) (word.now ∷ [])) }
 {
-    !word.as_str().starts_with("--")
-}
-
-fn command_of_one(words: &[String]) -> Option<Command>
-    requires { length words.now ≡ 1 }
-    ensures { MatchOption result ((command : Command) → IsForm command (map string_bytes words.now) → ⊥) (λ command. IsForm command (map string_bytes words.now)) }
-{
-    if is_word(&words[0], "--help") {
+    if word == "--help" {
         return Some(Command::Help);
     }
-    if is_word(&words[0], "--version") {
+    if word == "--version" {
         return Some(Command::Version);
     }
     None
 }
 
-fn command_of_two(words: &[String]) -> Option<Command>
-    requires { length words.now ≡ 2 }
-    ensures { MatchOption result ((command : Command) → IsForm command (map string_bytes words.now) → ⊥) (λ command. IsForm command (map string_bytes words.now)) }
+/// The command of two words.
+fn command_of_one<'a>(word: &'a str, sys: &'a str) -> Option<Command<'a>>
+    ensures { MatchOption result ((form : Form) → IsForm form (word.now ∷ sys.now ∷ []) → ⊥) (λ command. IsForm (form_of command) (word.now ∷ sys.now ∷ [])) }
 {
-    if is_word(&words[0], "show-image") && is_name(&words[1]) {
-        return Some(Command::ShowImage);
+    if word == "show-image" && is_operand(sys) {
+        return Some(Command::ShowImage { sys });
     }
     None
 }
 
-fn command_of_three(words: &[String]) -> Option<Command>
-    requires { length words.now ≡ 3 }
-    ensures { MatchOption result ((command : Command) → IsForm command (map string_bytes words.now) → ⊥) (λ command. IsForm command (map string_bytes words.now)) }
+/// The command of three words.
+fn command_of_two<'a>(word: &'a str, first: &'a str, second: &'a str) -> Option<Command<'a>>
+    ensures { MatchOption result ((form : Form) → IsForm form (word.now ∷ first.now ∷ second.now ∷ []) → ⊥) (λ command. IsForm (form_of command) (word.now ∷ first.now ∷ second.now ∷ [])) }
 {
-    if !is_name(&words[1]) || !is_name(&words[2]) {
+    if !is_operand(first) || !is_operand(second) {
         return None;
     }
-    if is_word(&words[0], "run0") {
-        return Some(Command::RunZero);
+    if word == "run0" {
+        return Some(Command::RunZero {
+            sys: first,
+            log: second,
+        });
     }
-    if is_word(&words[0], "show-inf") {
-        return Some(Command::ShowInf);
+    if word == "show-inf" {
+        return Some(Command::ShowInf {
+            inf: first,
+            id: second,
+        });
     }
     None
 }
 
-/// The command that the words spell, if they are one of the forms.
-pub fn command_of(words: &[String]) -> Option<Command>
-    ensures { MatchOption result ((command : Command) → IsForm command (map string_bytes words.now) → ⊥) (λ command. IsForm command (map string_bytes words.now)) }
+/// The command whose form the words have, if they have one.
+pub fn command_of(words: &[String]) -> Option<Command<'_>>
+    ensures { MatchOption result ((form : Form) → IsForm form (map string_bytes words.now) → ⊥) (λ command. IsForm (form_of command) (map string_bytes words.now)) }
 {
-    match words.len() {
-        1 => command_of_one(words),
-        2 => command_of_two(words),
-        3 => command_of_three(words),
+    match words {
+        [word] => command_alone(word.as_str()),
+        [word, operand] => command_of_one(word.as_str(), operand.as_str()),
+        [word, first, second] => command_of_two(word.as_str(), first.as_str(), second.as_str()),
         _ => None,
     }
 }

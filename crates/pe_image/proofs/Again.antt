@@ -12,7 +12,7 @@ use Rattle.pe_image.specs.Lookup.{word_of, word_at, holds_word, has_word}
 use Rattle.pe_image.specs.Relocations.{relocated_word, listed, entries_from, is_over, is_block, block_at, blocks_from, relocations_in}
 use Rattle.pe_image.specs.Sections.{IsLow}
 use Rattle.pe_image.specs.Imports.{named_import, import_at, imports_from, descriptor_at, imports_of, descriptors_from, most_descriptors, imports_in}
-use Rattle.pe_image.specs.Outcome.{◌>>=◌}
+use Rattle.nd_base.specs.Results.{◌>>=◌}
 use Rattle.pe_image.specs.Spellings.{Block, block_size, AreEntries, IsBlock, IsOver, AreBlocks, Relocates, RelocateInPage, Relocate, IsThunk, AreThunks, StandsAt, IsDescriptor, AreDescriptors, joined}
 use Rattle.pe_image.proofs.Importing.{imports-end, imports-on, descriptors-end, descriptors-on}
 use Rattle.pe_image.proofs.Spelled.{name_again, descriptor_past, relocations_read, imports_read}

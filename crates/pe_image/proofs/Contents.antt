@@ -6,7 +6,8 @@ use Rattle.std.proofs.lemmas.List.{get_or_append_left, get_or-append_right, get_
 use Rattle.std.proofs.lemmas.List.Elements.{All-tail}
 use Rattle.byteorder.specs.Endian.{little_number, little_bytes}
 use Rattle.nd_mem.specs.Cell.{Cell, cell_with}
-use Rattle.nd_mem.specs.Space.{Cells, either_of, byte_in}
+use Rattle.std.specs.Option.{option_or}
+use Rattle.nd_mem.specs.Space.{Cells, byte_in}
 use Rattle.nd_mem.specs.declared.Rights.{Rights}
 use Rattle.pe_image.specs.Image.{SectionPart, ImageParts, ImportParts, range_cell, read_only, section_cell, sections_cell, image_cell, overlay, word_in, with_word, delta, relocated, slotted, image_cells, HoldsByte, HoldsWord, AreApart, IsInSections, IsSectionLaidOut, IsLaidOut}
 use Rattle.pe_image.specs.Contents.{written, word_written, word_moved, with_sections, with_relocations, with_addresses, contents_of}
@@ -43,7 +44,7 @@ get_written_out bytes at piece r fits out =
     ]
 
 -- ---- cells
-pub cell_with-either : (byte : ℕ) (x y : Option Cell) → cell_with byte (either_of x y) ≡ either_of (cell_with byte x) (cell_with byte y)
+pub cell_with-either : (byte : ℕ) (x y : Option Cell) → cell_with byte (option_or x y) ≡ option_or (cell_with byte x) (cell_with byte y)
 cell_with-either byte None y = refl
 cell_with-either byte (Some x) y = refl
 
@@ -105,10 +106,10 @@ pub found : (base r : ℕ) (parts : List SectionPart) (k : ℕ) (d : SectionPart
 found base r [] k d less here = absurd (omega arith)
 found base r (part ∷ parts) zero d less here =
     let is = range_cell-in (base + part.section.rva) part.section.span part.bytes part.section.rights (base + r) (omega (arith, here.from)) (omega (arith, here.to)) in
-    ap (λ o. is_some (either_of o (sections_cell base parts (base + r)))) is
+    ap (λ o. is_some (option_or o (sections_cell base parts (base + r)))) is
 found base r (part ∷ parts) (suc k) d less here = either_some (section_cell base part (base + r)) (sections_cell base parts (base + r)) (found base r parts k d (omega arith) here)
   where
-    either_some : (x y : Option Cell) → is_some y ≡ true → is_some (either_of x y) ≡ true
+    either_some : (x y : Option Cell) → is_some y ≡ true → is_some (option_or x y) ≡ true
     either_some None y some = some
     either_some (Some x) y some = refl
 
@@ -145,12 +146,12 @@ untouched base a (part ∷ parts) bytes n low room fits none =
     (λ from. omega (arith, here.raw, range_cell-none (base + part.section.rva) part.section.span part.bytes part.section.rights a both.0 (omega arith)))
 
 -- a cell with another byte, if it is in the first of two look-ups or the second
-first_kept : (value byte : ℕ) (rights : Rights) (first rest : Option Cell) → first ≡ Some (record { byte = byte; rights = rights }) → value ≡ byte → cell_with value (either_of first rest) ≡ either_of first rest
+first_kept : (value byte : ℕ) (rights : Rights) (first rest : Option Cell) → first ≡ Some (record { byte = byte; rights = rights }) → value ≡ byte → cell_with value (option_or first rest) ≡ option_or first rest
 first_kept value byte rights first rest is same =
-    ap (λ o. cell_with value (either_of o rest)) is ∙ ap (λ b. Some (record { byte = b; rights = rights })) same ∙ sym (ap (λ o. either_of o rest) is)
+    ap (λ o. cell_with value (option_or o rest)) is ∙ ap (λ b. Some (record { byte = b; rights = rights })) same ∙ sym (ap (λ o. option_or o rest) is)
 
-rest_kept : (value : ℕ) (first rest : Option Cell) → first ≡ None → cell_with value rest ≡ rest → cell_with value (either_of first rest) ≡ either_of first rest
-rest_kept value first rest none kept = ap (λ o. cell_with value (either_of o rest)) none ∙ kept ∙ sym (ap (λ o. either_of o rest) none)
+rest_kept : (value : ℕ) (first rest : Option Cell) → first ≡ None → cell_with value rest ≡ rest → cell_with value (option_or first rest) ≡ option_or first rest
+rest_kept value first rest none kept = ap (λ o. cell_with value (option_or o rest)) none ∙ kept ∙ sym (ap (λ o. option_or o rest) none)
 
 -- the byte of a section that is over zeros
 raw_byte : (bytes raw : List ℕ) (rva r : ℕ) → rva + length raw ≤ length bytes → rva ≤ r → get_or bytes r 0 ≡ 0 → get_or (written bytes rva raw) r 0 ≡ get_or raw (r - rva) 0
@@ -181,7 +182,7 @@ placed base a (part ∷ parts) bytes n low room fits apart zeros =
           let is : section_cell base part a ≡ Some (record { byte = get_or part.bytes (a - (base + rva)) 0; rights = part.section.rights }) = range_cell-in (base + rva) part.section.span part.bytes part.section.rights a (omega (arith, there.1.from)) (omega (arith, there.1.to)) in
           let none : rest ≡ None = alone base a part parts (first_apart part parts apart) low there.1 in
           let kept : get_or (with_sections parts after) r 0 ≡ get_or after r 0 = untouched base a parts after n low (omega (arith, same)) (All-tail (Fits n) part parts fits) none in
-          let zero_there : get_or bytes r 0 ≡ 0 = zeros (record { byte = get_or part.bytes (a - (base + rva)) 0; rights = part.section.rights }) (ap (λ o. either_of o rest) is) in
+          let zero_there : get_or bytes r 0 ≡ 0 = zeros (record { byte = get_or part.bytes (a - (base + rva)) 0; rights = part.section.rights }) (ap (λ o. option_or o rest) is) in
           let index : r - rva ≡ a - (base + rva) = omega arith in
           first_kept (get_or (with_sections parts after) r 0) (get_or part.bytes (a - (base + rva)) 0) part.section.rights (section_cell base part a) rest is
           (kept ∙ raw_byte bytes part.bytes rva r within there.1.from zero_there ∙ ap (λ j. get_or part.bytes j 0) index)
@@ -189,7 +190,7 @@ placed base a (part ∷ parts) bytes n low room fits apart zeros =
           rest_kept (get_or (with_sections parts after) r 0) (section_cell base part a) rest none
           (placed base a parts after n low (omega (arith, same)) (All-tail (Fits n) part parts fits) (rest_apart part parts apart)
           (λ cell is. get_written_out bytes rva part.bytes r within (λ from. omega (arith, here.raw, range_cell-none (base + rva) part.section.span part.bytes part.section.rights a none (omega arith)))
-          ∙ zeros cell (ap (λ o. either_of o rest) none ∙ is)))
+          ∙ zeros cell (ap (λ o. option_or o rest) none ∙ is)))
     ]
 
 -- ---- an image whose sections have these bytes from RVA 0 on
@@ -197,7 +198,7 @@ unfoldable pub headers_cell : ImageParts → (base a : ℕ) → Option Cell
 headers_cell image base a = range_cell base image.header_size image.headers read_only a
 
 unfoldable pub shown : ImageParts → (base : ℕ) → List ℕ → Cells
-shown image base bytes a = either_of (headers_cell image base a) (cell_with (get_or bytes (a - base) 0) (sections_cell base image.sections a))
+shown image base bytes a = option_or (headers_cell image base a) (cell_with (get_or bytes (a - base) 0) (sections_cell base image.sections a))
 
 get_or-zeros : (n r : ℕ) → get_or (replicate {A = ℕ} n 0) r 0 ≡ 0
 get_or-zeros n r =
@@ -216,7 +217,7 @@ unfolding shown headers_cell
 shown_first image base laid =
     let bytes = with_sections image.sections (replicate image.size 0) in
     same_cells (image_cell image base) (shown image base bytes) (λ a.
-    ap (either_of (headers_cell image base a)) (sym (elim (cases_lt a base) [
+    ap (option_or (headers_cell image base a)) (sym (elim (cases_lt a base) [
       | inl below ↦ let none = sections_below base a image.sections below in ap (cell_with (get_or bytes (a - base) 0)) none ∙ sym none
       | inr low ↦ placed base a image.sections (replicate image.size 0) image.size low (omega (arith, length-replicate {A = ℕ} image.size 0)) (sections_fit image laid) laid.apart (λ cell is. get_or-zeros image.size (a - base))
     ])))
@@ -259,7 +260,7 @@ outside_piece image base bytes rva piece a fits out =
       | inl below ↦ let none : cell ≡ None = sections_below base a image.sections below in ap (cell_with (get_or bytes (a - base) 0)) none ∙ sym (ap (cell_with (get_or (written bytes rva piece) (a - base) 0)) none)
       | inr low ↦ ap (λ b. cell_with b cell) (sym (get_written_out bytes rva piece (a - base) fits (λ from. omega (arith, out (omega arith)))))
     ] in
-    ap (either_of (headers_cell image base a)) kept
+    ap (option_or (headers_cell image base a)) kept
 
 -- a piece laid over the image is one written over its bytes
 pub overlay_shown : (image : ImageParts) (base : ℕ) (bytes : List ℕ) (rva : ℕ) (piece : List ℕ) → rva + length piece ≤ length bytes → ((a : ℕ) → base + rva ≤ a → a < base + rva + length piece → headers_cell image base a ≡ None)
@@ -279,10 +280,10 @@ overlay_shown image base bytes rva piece fits behind =
             let place : rva + (a - (base + rva)) ≡ a - base = omega arith in
             let byte : get_or piece (a - (base + rva)) 0 ≡ get_or (written bytes rva piece) (a - base) 0 = sym (get_written_in bytes rva piece (a - (base + rva)) fits (omega arith)) ∙ ap (λ j. get_or (written bytes rva piece) j 0) place in
             overlay-in (shown image base bytes) (base + rva) piece a low within
-            ∙ ap (λ o. cell_with (get_or piece (a - (base + rva)) 0) (either_of o (cell_with (get_or bytes (a - base) 0) cell))) none
+            ∙ ap (λ o. cell_with (get_or piece (a - (base + rva)) 0) (option_or o (cell_with (get_or bytes (a - base) 0) cell))) none
             ∙ cell_with-twice (get_or piece (a - (base + rva)) 0) (get_or bytes (a - base) 0) cell
             ∙ ap (λ b. cell_with b cell) byte
-            ∙ sym (ap (λ o. either_of o (cell_with (get_or (written bytes rva piece) (a - base) 0) cell)) none)
+            ∙ sym (ap (λ o. option_or o (cell_with (get_or (written bytes rva piece) (a - base) 0) cell)) none)
       ]
     ])
 
@@ -293,7 +294,7 @@ shown_byte image base bytes rva k x word less is =
     let none : headers_cell image base a ≡ None = no_header image base rva word a (omega arith) (omega arith) in
     let place : base + (rva + k) - base ≡ rva + k = omega arith in
     ap (λ y. byte_in (shown image base bytes y)) is
-    ∙ ap (λ o. byte_in (either_of o (cell_with (get_or bytes (a - base) 0) (sections_cell base image.sections a)))) none
+    ∙ ap (λ o. byte_in (option_or o (cell_with (get_or bytes (a - base) 0) (sections_cell base image.sections a)))) none
     ∙ byte_in-with (get_or bytes (a - base) 0) (sections_cell base image.sections a) (word.some k less)
     ∙ ap (λ j. get_or bytes j 0) place
     ∙ sym (get_or-drop rva bytes k 0)

@@ -1,11 +1,11 @@
 -- An image is read exactly where its file is that of the image.
 use Rattle.std.proofs.Common.{◌≡◌, ℕ, zero, suc, ◌+◌, ◌<◌, ◌⊎◌, ◌↔◌, ◌&&◌, ◌==◌, inl, inr, Bool, true, false, nat_le, nat_lt, if◌then◌else◌, List, [], ◌∷◌, length, take, get_or, All, Option, None, Some, is_some, Result, Ok, Err, refl, sym, ap, ◌∙◌, subst, arith}
-use Rattle.std.specs.Prelude.{◌≢◌, Any, bit_and, IfOk, IfErr, MatchResult}
+use Rattle.std.specs.Prelude.{Any, bit_and}
 use Rattle.std.specs.List.{AllPairs}
 use Rattle.std.proofs.lemmas.Bool.{and_from, or_cases, or_left, or_right, leb-true, le-leb, lt-ltb, eqb-true, eq-eqb, ne_eqb}
 use Rattle.std.proofs.lemmas.List.Folds.{list_any-from_Any}
 use Rattle.pe_image.specs.declared.refusal.PeRefusal.{PeRefusal}
-use Rattle.pe_image.specs.declared.refusal.PeRefusal.TheVariants.{OutOfMemory, TooLarge, Short, NotPe, NotI386, NotPe32, BadSection, Overlap, BadEntry, BadDirectory, BadReloc, RelocsStripped, BadImport, Ordinal}
+use Rattle.pe_image.specs.declared.refusal.PeRefusal.TheVariants.{TooLarge, BadEntry, BadDirectory, RelocsStripped}
 use Rattle.pe_image.specs.declared.headers.Directory.{Directory}
 use Rattle.pe_image.specs.declared.headers.Headers.{Headers}
 use Rattle.pe_image.specs.File.{u32_at, directory}
@@ -15,12 +15,13 @@ use Rattle.pe_image.specs.Sections.{sections_in, IsLow}
 use Rattle.pe_image.specs.Lookup.{holds_byte, section_with, section_byte, word_at}
 use Rattle.pe_image.specs.Relocations.{relocation_section, relocations_in}
 use Rattle.pe_image.specs.Imports.{imports_in}
-use Rattle.pe_image.specs.Reading.{has_entry, is_placed, can_be_placed, image_of, reading}
+use Rattle.pe_image.specs.Reading.{has_entry, is_placed, can_be_placed, image_of, imported, relocated, entered, reading}
 use Rattle.pe_image.specs.Spellings.{AreDescriptors}
 use Rattle.pe_image.specs.Image.{SectionPart, ImportParts, ImageParts, HoldsByte, AreApart, HoldsEntry}
-use Rattle.pe_image.specs.Outcome.{◌>>=◌, require, found_or}
+use Rattle.nd_base.specs.Results.{◌>>=◌, require}
+use Rattle.std.specs.Option.{ok_or}
 use Rattle.pe_image.proofs.Judged.{bind_ok, require_ok, ok_is}
-use Rattle.pe_image.proofs.LaidOut.{any_entry, byte_held, Any-first, Any-later, chosen, found_is, four_there, byte_there, imported, relocated, entered}
+use Rattle.pe_image.proofs.LaidOut.{any_entry, byte_held, Any-first, Any-later, chosen, found_is, four_there, byte_there}
 use Rattle.pe_image.proofs.Again.{relocations, imports, few_descriptors}
 use Rattle.pe_image.proofs.HeaderFields.{bind_known, require_known, headers_in, HaveHeaders, headers_read, headers_again, not_so, directory_in, directory_read, directory_again}
 use Rattle.pe_image.proofs.SectionHeaders.{not_zero, sections_read, sections_again}
@@ -70,10 +71,10 @@ none_relocated parts directory words e = sym (ok_is [] words e)
 relocations_read : (parts : List SectionPart) (directory : Directory) (table : Option SectionPart) (words : List ℕ) → relocation_section parts directory ≡ Ok table → relocations_in parts directory table ≡ Ok words → AreRelocations parts directory words
 unfolding relocation_section
 relocations_read parts directory table words e read =
-    elim (chosen (directory.rva == 0) (Ok None) (found_or (BadDirectory 5) (section_with parts directory.rva) >>= λ part. require (nat_le (directory.rva + directory.size) (part.section.rva + part.section.span)) (BadDirectory 5) >>= λ _. Ok (Some part)) (Ok table) e) [
+    elim (chosen (directory.rva == 0) (Ok None) (ok_or (section_with parts directory.rva) (BadDirectory 5) >>= λ part. require (nat_le (directory.rva + directory.size) (part.section.rva + part.section.span)) (BadDirectory 5) >>= λ _. Ok (Some part)) (Ok table) e) [
       | inl none ↦ inl (eqb-true directory.rva 0 none.0, none_relocated parts directory words (subst (λ (t : Option SectionPart). relocations_in parts directory t ≡ Ok words) (sym (ok_is None table none.1)) read))
       | inr some ↦
-          let a = bind_ok (found_or (BadDirectory 5) (section_with parts directory.rva)) (λ part. require (nat_le (directory.rva + directory.size) (part.section.rva + part.section.span)) (BadDirectory 5) >>= λ _. Ok (here part)) table some.1 in
+          let a = bind_ok (ok_or (section_with parts directory.rva) (BadDirectory 5)) (λ part. require (nat_le (directory.rva + directory.size) (part.section.rva + part.section.span)) (BadDirectory 5) >>= λ _. Ok (here part)) table some.1 in
           let fits : Bool = nat_le (directory.rva + directory.size) (a.0.section.rva + a.0.section.span) in
           let b = bind_ok (require fits (BadDirectory 5)) (λ _. Ok (here a.0)) table a.2 in
           let spelled = (relocations parts directory a.0 words).0 (subst (λ (t : Option SectionPart). relocations_in parts directory t ≡ Ok words) (sym (ok_is (here a.0) table b.2)) read) in
@@ -249,34 +250,5 @@ read_ok image = Ok image
 abbrev read_err : PeRefusal → Result ImageParts PeRefusal
 read_err e = Err e
 
-ok_err : (image : ImageParts) (e : PeRefusal) → read_ok image ≡ read_err e → ⊥
+pub ok_err : (image : ImageParts) (e : PeRefusal) → read_ok image ≡ read_err e → ⊥
 ok_err image e same = cc
-
-only_memory : (e : PeRefusal) → (e ≢ OutOfMemory → ⊥) → e ≡ OutOfMemory
-only_memory OutOfMemory none = refl
-only_memory TooLarge none = absurd (none (λ same. cc))
-only_memory (Short at) none = absurd (none (λ same. cc))
-only_memory NotPe none = absurd (none (λ same. cc))
-only_memory NotI386 none = absurd (none (λ same. cc))
-only_memory NotPe32 none = absurd (none (λ same. cc))
-only_memory (BadSection k) none = absurd (none (λ same. cc))
-only_memory (Overlap k) none = absurd (none (λ same. cc))
-only_memory BadEntry none = absurd (none (λ same. cc))
-only_memory (BadDirectory k) none = absurd (none (λ same. cc))
-only_memory (BadReloc rva) none = absurd (none (λ same. cc))
-only_memory RelocsStripped none = absurd (none (λ same. cc))
-only_memory (BadImport rva) none = absurd (none (λ same. cc))
-only_memory (Ordinal rva) none = absurd (none (λ same. cc))
-
--- no refusal but for want of memory
-pub no_refusal : (bytes : List ℕ) (image : ImageParts) (e : PeRefusal) → IsImage bytes image → (e ≢ OutOfMemory → reading bytes ≡ Err e) → e ≡ OutOfMemory
-no_refusal bytes image e is refused = only_memory e (λ other. ok_err image e (sym (image_again bytes image is) ∙ refused other))
-
-pub found : (bytes : List ℕ) (made : ImageParts) (r : Result ImageParts PeRefusal) → reading bytes ≡ Ok made → IfOk r (λ image. image ≡ made) → IfOk r (IsImage bytes)
-found bytes made (Ok image) e is = subst (IsImage bytes) (sym is) (image_read bytes made e)
-found bytes made (Err refusal) e is = tt
-
-pub only : (bytes : List ℕ) (made : ImageParts) (r : Result ImageParts PeRefusal) (image : ImageParts) → reading bytes ≡ Ok made → IfOk r (λ i. i ≡ made) → IfErr r (λ e. e ≡ OutOfMemory) → IsImage bytes image
-    → MatchResult r (λ i. i ≡ image) (λ e. e ≡ OutOfMemory)
-only bytes made (Ok i) image e is memory has = is ∙ ok_is made image (sym e ∙ image_again bytes image has)
-only bytes made (Err refusal) image e is memory has = memory

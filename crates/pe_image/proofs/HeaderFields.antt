@@ -10,7 +10,7 @@ use Rattle.pe_image.specs.declared.headers.Headers.{Headers}
 use Rattle.pe_image.specs.File.{u16_at, u32_at, file_header, has_directory, directory, optional_header}
 use Rattle.pe_image.specs.Headers.{dos_header, file_header_at, optional_header_at, headers_of}
 use Rattle.pe_image.specs.Grammar.{signature_offset, size_of_optional_header, optional_header_offset, section_table_offset, HasDosHeader, HasFileHeader, HasDirectory, IsDirectory}
-use Rattle.pe_image.specs.Outcome.{◌>>=◌, require}
+use Rattle.nd_base.specs.Results.{◌>>=◌, require}
 use Rattle.pe_image.proofs.Judged.{bind_ok, require_ok, ok_is}
 
 -- what is behind a step whose value is known

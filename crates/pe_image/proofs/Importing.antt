@@ -1,12 +1,14 @@
 -- Imports, step by step.
-use Rattle.std.proofs.Common.{◌≡◌, ℕ, zero, suc, ◌+◌, ◌-◌, true, false, eqb, List, [], ◌∷◌, ◌++◌, length, None, Some, Ok, Err, refl}
+use Rattle.std.proofs.Common.{◌≡◌, ℕ, zero, suc, ◌+◌, ◌-◌, true, false, eqb, List, [], ◌∷◌, ◌++◌, length, Option, None, Some, Result, Ok, Err, refl}
+use Rattle.std.specs.Option.{option_map}
+use Rattle.arrayvec.specs.ArrayVec.{ArrayVec}
 use Rattle.pe_image.specs.declared.refusal.PeRefusal.{PeRefusal}
 use Rattle.pe_image.specs.declared.refusal.PeRefusal.TheVariants.{TooLarge, BadImport}
 use Rattle.pe_image.specs.declared.imports.Descriptor.{Descriptor}
 use Rattle.pe_image.specs.Image.{SectionPart, ImportParts}
 use Rattle.pe_image.specs.Lookup.{section_byte}
 use Rattle.pe_image.specs.Imports.{is_printable, text_from, import_at, imports_from, descriptor_at, imports_of, descriptors_from}
-use Rattle.pe_image.specs.Outcome.{◌>>=◌}
+use Rattle.nd_base.specs.Results.{◌>>=◌}
 
 pub text-none : (parts : List SectionPart) (e : PeRefusal) (rva n : ℕ) → section_byte parts rva ≡ None → text_from parts e rva (suc n) ≡ Err e
 unfolding text_from
@@ -64,3 +66,14 @@ pub descriptors-on : (parts : List SectionPart) (rva count n : ℕ) (descriptor 
     → descriptors_from parts rva (suc count) n ≡ (imports_of parts descriptor n >>= λ functions. descriptors_from parts (rva + 20) count (n - length functions) >>= λ others. Ok (functions ++ others))
 unfolding descriptors_from
 descriptors-on parts rva count n descriptor is some = rw (is, some) refl
+
+-- what a thunk imports, where its name is read
+abbrev pub named : (dll : List ℕ) → (slot : ℕ) → Option (ArrayVec ℕ) → Result (Option ImportParts) PeRefusal
+named dll slot found = Ok (option_map (λ name. record { dll = dll; name = name.items; slot = slot }) found)
+
+abbrev pub imported : (dll : List ℕ) → (slot : ℕ) → (name : List ℕ) → Result (Option ImportParts) PeRefusal
+imported dll slot name = Ok (Some (record { dll = dll; name = name; slot = slot }))
+
+-- the functions of a descriptor, and those of the descriptors behind it
+abbrev pub and_others : List SectionPart → (rva count n : ℕ) → Result (List ImportParts) PeRefusal → Result (List ImportParts) PeRefusal
+and_others parts rva count n read = read >>= λ functions. descriptors_from parts (rva + 20) count (n - length functions) >>= λ others. Ok (functions ++ others)

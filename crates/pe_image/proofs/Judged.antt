@@ -11,7 +11,7 @@ use Rattle.pe_image.specs.declared.headers.OptionalHeader.{OptionalHeader}
 use Rattle.pe_image.specs.declared.headers.SectionHeader.{SectionHeader}
 use Rattle.pe_image.specs.File.{section_header, raw_of}
 use Rattle.pe_image.specs.Sections.{section_table, end_of, is_inside, overlaps, section_judged, sections_judged, section_part, HasRawPart, IsLow}
-use Rattle.pe_image.specs.Outcome.{◌>>=◌, require}
+use Rattle.nd_base.specs.Results.{◌>>=◌, require}
 
 -- the value of a step that did not fail
 pub bind_ok : {A B : Type 0} (r : Result A PeRefusal) (f : A → Result B PeRefusal) (y : B) → (r >>= f) ≡ Ok y → (x : A) × (r ≡ Ok x) × (f x ≡ Ok y)

@@ -23,8 +23,9 @@ use Rattle.pe_image.specs.Sections.{section_table, sections_in, end_of, meets, o
 use Rattle.pe_image.specs.Lookup.{holds_byte, holds_word, byte_of, half_of, word_of, section_with, has_word, section_byte, word_from, word_at}
 use Rattle.pe_image.specs.Relocations.{relocation_section, relocated_word, listed, entries_from, is_over, is_block, block_at, blocks_from, relocations_in}
 use Rattle.pe_image.specs.Imports.{name_at, named_import, import_at, continued, imports_from, descriptor_at, imports_of, descriptors_from, most_descriptors, imports_in}
-use Rattle.pe_image.specs.Reading.{has_entry, is_placed, can_be_placed, image_of, reading}
-use Rattle.pe_image.specs.Outcome.{◌>>=◌, require, found_or}
+use Rattle.pe_image.specs.Reading.{has_entry, is_placed, can_be_placed, image_of, imported, relocated, entered, reading}
+use Rattle.nd_base.specs.Results.{◌>>=◌, require}
+use Rattle.std.specs.Option.{ok_or}
 use Rattle.pe_image.proofs.Judged.{bind_ok, require_ok, ok_is, IsInside, right-from_judged}
 
 -- ---- sections
@@ -220,7 +221,7 @@ relocations_are parts directory (Some table) words e =
 abbrev HasSlot : List SectionPart → ImportParts → Type 0
 HasSlot parts function = IsInSections parts function.slot
 
-pub found_is : {A : Type 0} (e : PeRefusal) (o : Option A) (x : A) → found_or e o ≡ Ok x → o ≡ Some x
+pub found_is : {A : Type 0} (e : PeRefusal) (o : Option A) (x : A) → ok_or o e ≡ Ok x → o ≡ Some x
 found_is e None x h = absurd cc
 found_is e (Some y) x h = ap Some (ok_is y x h)
 
@@ -239,8 +240,8 @@ none_is_some f e = absurd cc
 named_slot : (parts : List SectionPart) (dll : List ℕ) (thunk slot word : ℕ) (function : ImportParts) → named_import parts dll thunk slot word ≡ Ok (Some function) → HasSlot parts function
 unfolding named_import
 named_slot parts dll thunk slot word function e =
-    let a = bind_ok (require (nat_lt word 0x80000000) (Ordinal thunk)) (λ _. found_or (BadImport slot) (word_at parts slot) >>= λ _. name_at parts (word + 2) >>= λ name. Ok (Some (record { dll = dll; name = name; slot = slot }))) (Some function) e in
-    let b = bind_ok (found_or (BadImport slot) (word_at parts slot)) (λ _. name_at parts (word + 2) >>= λ name. Ok (Some (record { dll = dll; name = name; slot = slot }))) (Some function) a.2 in
+    let a = bind_ok (require (nat_lt word 0x80000000) (Ordinal thunk)) (λ _. ok_or (word_at parts slot) (BadImport slot) >>= λ _. name_at parts (word + 2) >>= λ name. Ok (Some (record { dll = dll; name = name; slot = slot }))) (Some function) e in
+    let b = bind_ok (ok_or (word_at parts slot) (BadImport slot)) (λ _. name_at parts (word + 2) >>= λ name. Ok (Some (record { dll = dll; name = name; slot = slot }))) (Some function) a.2 in
     let c = bind_ok (name_at parts (word + 2)) (λ name. Ok (Some (record { dll = dll; name = name; slot = slot }))) (Some function) b.2 in
     let made : ImportParts = record { dll = dll; name = c.0; slot = slot } in
     let same : made ≡ function = some_is made function (ok_is (Some made) (Some function) c.2) in
@@ -249,7 +250,7 @@ named_slot parts dll thunk slot word function e =
 import_slot : (parts : List SectionPart) (dll : List ℕ) (thunk slot : ℕ) (function : ImportParts) → import_at parts dll thunk slot ≡ Ok (Some function) → HasSlot parts function
 unfolding import_at
 import_slot parts dll thunk slot function e =
-    let a = bind_ok (found_or (BadImport thunk) (word_at parts thunk)) (λ word. if word == 0 then Ok None else named_import parts dll thunk slot word) (Some function) e in
+    let a = bind_ok (ok_or (word_at parts thunk) (BadImport thunk)) (λ word. if word == 0 then Ok None else named_import parts dll thunk slot word) (Some function) e in
     elim (chosen (a.0 == 0) (Ok None) (named_import parts dll thunk slot a.0) (Ok (Some function)) a.2) [
       | inl none ↦ absurd (none_is_some function (ok_is None (Some function) none.1))
       | inr some ↦ named_slot parts dll thunk slot a.0 function some.1
@@ -402,17 +403,6 @@ parts_laid_out bytes headers sections relocations imports of are entry relocated
       relocations = relocated;
       imports = slots;
     }
-
-abbrev pub imported : List ℕ → Headers → List SectionPart → List ℕ → Result ImageParts PeRefusal
-imported bytes headers sections relocations =
-    require (can_be_placed headers) RelocsStripped >>= λ _. imports_in sections headers.image.imports.rva >>= λ imports. Ok (image_of bytes headers sections relocations imports)
-
-abbrev pub relocated : List ℕ → Headers → List SectionPart → Option SectionPart → Result ImageParts PeRefusal
-relocated bytes headers sections table = relocations_in sections headers.image.relocations table >>= λ relocations. imported bytes headers sections relocations
-
-abbrev pub entered : List ℕ → Headers → List SectionPart → Result ImageParts PeRefusal
-entered bytes headers sections =
-    require (has_entry sections headers.image.entry) BadEntry >>= λ _. require (is_placed sections headers.image.imports.rva) (BadDirectory 1) >>= λ _. relocation_section sections headers.image.relocations >>= λ table. relocated bytes headers sections table
 
 pub laid_out : (bytes : List ℕ) (image : ImageParts) → ((i : ℕ) → get_or bytes i 0 < 256) → reading bytes ≡ Ok image → IsLaidOut image
 unfolding reading IsBytes

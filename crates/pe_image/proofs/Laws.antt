@@ -1,13 +1,14 @@
 -- Laws of laid out images, for the crates above.
 use Rattle.std.proofs.Common.{◌≡◌, ◌≢◌, ℕ, zero, suc, ◌+◌, ◌-◌, ◌%◌, ◌^◌, ◌<◌, ◌≤◌, inl, inr, true, List, [], ◌∷◌, length, get_or, map, Option, None, Some, is_some, refl, ap, ◌∙◌, subst, arith, All}
-use Rattle.std.proofs.lemmas.Bool.{cases_lt, le-ltb}
+use Rattle.std.proofs.lemmas.Bool.{cases_lt}
 use Rattle.std.proofs.lemmas.List.{get_or_default}
 use Rattle.std.proofs.lemmas.List.Elements.{All-tail}
 use Rattle.byteorder.specs.Endian.{little_number, little_bytes}
 use Rattle.byteorder.specs.Numbers.{little_number-reads_back}
 use Rattle.nd_mem.specs.Cell.{Cell, cell_with, rights_in}
-use Rattle.nd_mem.specs.Space.{Cells, either_of, byte_in, region_refusal, overlap_at}
-use Rattle.nd_mem.proofs.Laws.{mapped_none}
+use Rattle.std.specs.Option.{option_or}
+use Rattle.nd_mem.specs.Space.{Cells, byte_in}
+use Rattle.nd_mem.specs.Laws.{RegionLaws}
 use Rattle.pe_image.specs.Image.{SectionPart, ImageParts, ImportParts, range_cell, section_cell, sections_cell, image_cell, read_only, overlay, word_in, with_word, delta, relocated, slotted, image_cells, sections_refusal, map_refusal, IsInSections, IsSectionLaidOut, HoldsEntry, IsLaidOut, IsOutside, AreWordsApart}
 use Rattle.pe_image.proofs.Mapping.{range_cell-out}
 use Rattle.pe_image.proofs.Contents.{overlay-in, overlay-out, byte_in-with, word_of, in_sections}
@@ -198,7 +199,7 @@ slotted_word base (function ∷ functions) (at ∷ addresses) cells (suc k) d le
     slotted_word base functions addresses (with_word cells (base + function.slot) at) k d (omega arith) (omega arith) small (λ j behind within. apart (suc j) (omega arith) (omega arith))
     (mapped_overlay cells (base + function.slot) (little_bytes 4 at) (base + (get_or functions k d).slot) mapped)
 
-either_some : (x y : Option Cell) → is_some y ≡ true → is_some (either_of x y) ≡ true
+either_some : (x y : Option Cell) → is_some y ≡ true → is_some (option_or x y) ≡ true
 either_some None y some = some
 either_some (Some x) y some = refl
 
@@ -238,20 +239,17 @@ image_slotted image base slots k d laid many less small apart =
 pub image_cells-out : (image : ImageParts) (base : ℕ) (slots : List ℕ) (a : ℕ) → IsLaidOut image → (base ≤ a → base + image.size ≤ a) → image_cells image base slots a ≡ None
 image_cells-out image base slots a laid out = none_as (image_cells image base slots a) (image_cell image base a) (image_rights image base slots a) (image_cell-out image base a laid out)
 
-free_range : (cells : Cells) (a n : ℕ) → a + n ≤ 0xF0000000 → ((k : ℕ) → k < n → cells (a + k) ≡ None) → region_refusal cells a n ≡ None
-free_range cells a n low free = rw (le-ltb 0xF0000000 (a + n) low) (ap overlap_at (mapped_none cells a n free))
-
-sections_taken : (cells : Cells) (base : ℕ) (image : ImageParts) (parts : List SectionPart) → base + image.size ≤ 0xF0000000 → ((a : ℕ) → base ≤ a → a < base + image.size → cells a ≡ None) → All (IsSectionLaidOut image) parts
+sections_taken : RegionLaws → (cells : Cells) (base : ℕ) (image : ImageParts) (parts : List SectionPart) → base + image.size ≤ 0xF0000000 → ((a : ℕ) → base ≤ a → a < base + image.size → cells a ≡ None) → All (IsSectionLaidOut image) parts
     → sections_refusal cells base (map (λ part. part.section) parts) ≡ None
-sections_taken cells base image [] low free laid = refl
-sections_taken cells base image (part ∷ parts) low free laid =
+sections_taken regions cells base image [] low free laid = refl
+sections_taken regions cells base image (part ∷ parts) low free laid =
     let here : IsSectionLaidOut image part = laid 0 part (omega arith) in
-    rw (free_range cells (base + part.section.rva) part.section.span (omega (arith, here.inside)) (λ k less. free (base + part.section.rva + k) (omega arith) (omega (arith, here.inside))))
-    (sections_taken cells base image parts low free (All-tail (IsSectionLaidOut image) part parts laid))
+    rw (regions.taken cells (base + part.section.rva) part.section.span (omega (arith, here.inside)) (λ k less. free (base + part.section.rva + k) (omega arith) (omega (arith, here.inside))))
+    (sections_taken regions cells base image parts low free (All-tail (IsSectionLaidOut image) part parts laid))
 
 -- an image can be mapped where its SizeOfImage bytes are free and low
-pub image_taken : (cells : Cells) (base : ℕ) (image : ImageParts) → IsLaidOut image → base + image.size ≤ 0xF0000000 → ((a : ℕ) → base ≤ a → a < base + image.size → cells a ≡ None) → map_refusal cells base image ≡ None
-image_taken cells base image laid low free =
+pub image_taken : RegionLaws → (cells : Cells) (base : ℕ) (image : ImageParts) → IsLaidOut image → base + image.size ≤ 0xF0000000 → ((a : ℕ) → base ≤ a → a < base + image.size → cells a ≡ None) → map_refusal cells base image ≡ None
+image_taken regions cells base image laid low free =
     let short : image.header_size ≤ image.size = omega (arith, headers_before_entry image laid, entry_inside image laid) in
-    rw (free_range cells base image.header_size (omega arith) (λ k less. free (base + k) (omega arith) (omega arith)))
-    (sections_taken cells base image image.sections low free laid.sections)
+    rw (regions.taken cells base image.header_size (omega arith) (λ k less. free (base + k) (omega arith) (omega arith)))
+    (sections_taken regions cells base image image.sections low free laid.sections)

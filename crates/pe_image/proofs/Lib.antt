@@ -1,6 +1,7 @@
 pub mod Again
 pub mod Contents
 pub mod Fronts
+pub mod Gathering
 pub mod Grammar
 pub mod HeaderFields
 pub mod Importing
@@ -8,9 +9,11 @@ pub mod Judged
 pub mod Keeping
 pub mod LaidOut
 pub mod Laws
+pub mod Limits
 pub mod Loops
 pub mod Mapping
 pub mod Parts
+pub mod Refusals
 pub mod Relocating
 pub mod SectionHeaders
 pub mod Spelled

@@ -6,7 +6,8 @@ use Rattle.std.proofs.lemmas.List.{drop_more, get_or-drop, get_or_default}
 use Rattle.std.proofs.lemmas.List.Elements.{All-tail}
 use Rattle.std.proofs.Math.ListN.{drop_of_length-le}
 use Rattle.nd_mem.specs.Cell.{Cell}
-use Rattle.nd_mem.specs.Space.{Cells, either_of, region_refusal}
+use Rattle.std.specs.Option.{option_or}
+use Rattle.nd_mem.specs.Space.{Cells, region_refusal}
 use Rattle.pe_image.specs.declared.headers.Section.{Section}
 use Rattle.pe_image.specs.Image.{SectionPart, ImageParts, ImportParts, range_cell, sections_refusal, IsLaidOut}
 use Rattle.pe_image.specs.Contents.{written, word_written, word_moved, with_sections, with_relocations, with_addresses, filled_cell, AreDisjoint, WordEndsWithin, SlotEndsWithin}
@@ -62,37 +63,37 @@ section_cell_of base contents section a = range_cell (base + section.rva) sectio
 
 -- the bytes from a section's RVA on, up to its end
 pub added_part : (mid new : Cells) (base : ℕ) (contents : List ℕ) (section : Section)
-    → ((a : ℕ) → new a ≡ either_of (mid a) (range_cell (base + section.rva) section.span (take (section.rva + section.span - section.rva) (drop section.rva contents)) section.rights a))
-    → (a : ℕ) → new a ≡ either_of (mid a) (section_cell_of base contents section a)
+    → ((a : ℕ) → new a ≡ option_or (mid a) (range_cell (base + section.rva) section.span (take (section.rva + section.span - section.rva) (drop section.rva contents)) section.rights a))
+    → (a : ℕ) → new a ≡ option_or (mid a) (section_cell_of base contents section a)
 unfolding section_cell_of
 added_part mid new base contents section added a =
     let same : section.rva + section.span - section.rva ≡ section.span = omega arith in
-    added a ∙ ap (λ n. either_of (mid a) (range_cell (base + section.rva) section.span (take n (drop section.rva contents)) section.rights a)) same
+    added a ∙ ap (λ n. option_or (mid a) (range_cell (base + section.rva) section.span (take n (drop section.rva contents)) section.rights a)) same
 
 pub filled_more : (base : ℕ) (contents : List ℕ) (sections : List Section) (i : ℕ) (d : Section) (a : ℕ) → i < length sections
-    → filled_cell base contents (take (i + 1) sections) a ≡ either_of (filled_cell base contents (take i sections) a) (section_cell_of base contents (get_or sections i d) a)
+    → filled_cell base contents (take (i + 1) sections) a ≡ option_or (filled_cell base contents (take i sections) a) (section_cell_of base contents (get_or sections i d) a)
 unfolding section_cell_of
 filled_more base contents [] i d a less = absurd (omega arith)
 filled_more base contents (section ∷ sections) zero d a less = either_none_right (section_cell_of base contents section a)
 filled_more base contents (section ∷ sections) (suc i) d a less =
     let next : suc i + 1 ≡ suc (i + 1) = omega arith in
     rw next
-    (ap (either_of (section_cell_of base contents section a)) (filled_more base contents sections i d a (omega arith))
+    (ap (option_or (section_cell_of base contents section a)) (filled_more base contents sections i d a (omega arith))
     ∙ sym (either_assoc (section_cell_of base contents section a) (filled_cell base contents (take i sections) a) (section_cell_of base contents (get_or sections i d) a)))
 
 -- one more section is mapped
 pub filled_next : (old mid new : Cells) (base : ℕ) (contents : List ℕ) (sections : List Section) (i : ℕ) (d : Section) → i < length sections
-    → ((a : ℕ) → mid a ≡ either_of (old a) (filled_cell base contents (take i sections) a))
-    → ((a : ℕ) → new a ≡ either_of (mid a) (section_cell_of base contents (get_or sections i d) a))
-    → (a : ℕ) → new a ≡ either_of (old a) (filled_cell base contents (take (i + 1) sections) a)
+    → ((a : ℕ) → mid a ≡ option_or (old a) (filled_cell base contents (take i sections) a))
+    → ((a : ℕ) → new a ≡ option_or (mid a) (section_cell_of base contents (get_or sections i d) a))
+    → (a : ℕ) → new a ≡ option_or (old a) (filled_cell base contents (take (i + 1) sections) a)
 filled_next old mid new base contents sections i d less before added a =
     added a
-    ∙ ap (λ o. either_of o (section_cell_of base contents (get_or sections i d) a)) (before a)
+    ∙ ap (λ o. option_or o (section_cell_of base contents (get_or sections i d) a)) (before a)
     ∙ either_assoc (old a) (filled_cell base contents (take i sections) a) (section_cell_of base contents (get_or sections i d) a)
-    ∙ ap (either_of (old a)) (sym (filled_more base contents sections i d a less))
+    ∙ ap (option_or (old a)) (sym (filled_more base contents sections i d a less))
 
 behind_free : (mid new : Cells) (base : ℕ) (section : Section) (bytes : List ℕ) (rest : List Section) → All (AreDisjoint section) rest
-    → ((a : ℕ) → new a ≡ either_of (mid a) (range_cell (base + section.rva) section.span bytes section.rights a))
+    → ((a : ℕ) → new a ≡ option_or (mid a) (range_cell (base + section.rva) section.span bytes section.rights a))
     → sections_refusal mid base rest ≡ None → sections_refusal new base rest ≡ None
 behind_free mid new base section bytes [] apart added free = refl
 behind_free mid new base section bytes (other ∷ rest) apart added free =
@@ -104,7 +105,7 @@ behind_free mid new base section bytes (other ∷ rest) apart added free =
       | inl within ↦ absurd (here (other.rva + k) (omega arith) (omega arith) (omega arith) (omega arith))
       | inr high ↦ high
     ] in
-    added x ∙ ap (either_of (mid x)) (range_cell-out (base + section.rva) section.span bytes section.rights x out) ∙ either_none_right (mid x)) in
+    added x ∙ ap (option_or (mid x)) (range_cell-out (base + section.rva) section.span bytes section.rights x out) ∙ either_none_right (mid x)) in
     rw (same, both.0) (behind_free mid new base section bytes rest (All-tail (AreDisjoint section) other rest apart) added both.1)
 
 later_apart : (sections : List Section) (i : ℕ) (d : Section) → i < length sections → AllPairs AreDisjoint sections → All (AreDisjoint (get_or sections i d)) (drop (i + 1) sections)
@@ -115,7 +116,7 @@ later_apart sections i d less apart = λ k e within.
 
 -- the sections behind the next one stay free
 pub later_free : (mid new : Cells) (base : ℕ) (sections : List Section) (i : ℕ) (d : Section) (bytes : List ℕ) → i < length sections → AllPairs AreDisjoint sections
-    → ((a : ℕ) → new a ≡ either_of (mid a) (range_cell (base + (get_or sections i d).rva) (get_or sections i d).span bytes (get_or sections i d).rights a))
+    → ((a : ℕ) → new a ≡ option_or (mid a) (range_cell (base + (get_or sections i d).rva) (get_or sections i d).span bytes (get_or sections i d).rights a))
     → sections_refusal mid base (drop i sections) ≡ None → sections_refusal new base (drop (i + 1) sections) ≡ None
 later_free mid new base sections i d bytes less apart added free =
     let parts : sections_refusal mid base (get_or sections i d ∷ drop (i + 1) sections) ≡ None = ap (sections_refusal mid base) (sym (drop_more sections i d less)) ∙ free in

@@ -6,7 +6,8 @@ use Rattle.std.proofs.lemmas.Bool.{cases_lt}
 use Rattle.std.proofs.lemmas.List.Elements.{All-tail}
 use Rattle.nd_mem.specs.declared.Rights.{Rights}
 use Rattle.nd_mem.specs.Cell.{Cell}
-use Rattle.nd_mem.specs.Space.{Cells, either_of, region_refusal}
+use Rattle.std.specs.Option.{option_or}
+use Rattle.nd_mem.specs.Space.{Cells, region_refusal}
 use Rattle.pe_image.specs.declared.headers.Section.{Section}
 use Rattle.pe_image.specs.Image.{SectionPart, ImageParts, section_parts, range_cell, section_cell, sections_cell, sections_refusal, read_only, IsSectionLaidOut, sections_of}
 use Rattle.pe_image.specs.declared.image.Image.TheInside.{Inside}
@@ -51,7 +52,7 @@ pub bytes_at : (contents : List (Vec ℕ Global)) (k : ℕ) (kept : Vec ℕ Glob
 bytes_at contents k kept bytes less is are = are ∙ ap (λ (b : Vec ℕ Global). b.items) is ∙ sym (get_or-map (λ b. b.items) contents k kept bytes less)
 
 -- ---- a whole image
-pub either_exchange : (o c : Option Cell) → ((cell : Cell) → c ≡ Some cell → o ≡ None) → either_of o c ≡ either_of c o
+pub either_exchange : (o c : Option Cell) → ((cell : Cell) → c ≡ Some cell → o ≡ None) → option_or o c ≡ option_or c o
 either_exchange None c apart = sym (either_none_right c)
 either_exchange (Some found) None apart = refl
 either_exchange (Some found) (Some cell) apart = absurd (let e : Some found ≡ None = apart cell refl in cc)
@@ -64,7 +65,7 @@ free_in_range cells at n bytes rights x cell free is =
       | inr low ↦ elim (cases_lt x (at + n)) [ inl within ↦ free_at cells at n x free low within | inr high ↦ outside (λ _. high) ]
     ]
 
-pub free_in_either : (o c : Option Cell) (cell : Cell) (P : Type 0) → (o ≡ Some cell → P) → (c ≡ Some cell → P) → either_of o c ≡ Some cell → P
+pub free_in_either : (o c : Option Cell) (cell : Cell) (P : Type 0) → (o ≡ Some cell → P) → (c ≡ Some cell → P) → option_or o c ≡ Some cell → P
 free_in_either None c cell P first second is = second is
 free_in_either (Some found) c cell P first second is = first is
 
@@ -78,7 +79,7 @@ free_in_sections cells base (part ∷ parts) x cell free is =
     is
 
 -- the headers leave the sections' ranges free
-pub still_free : (old new : Cells) (base : ℕ) (image : ImageParts) (parts : List SectionPart) → All (IsSectionLaidOut image) parts → ((x : ℕ) → new x ≡ either_of (old x) (range_cell base image.header_size image.headers read_only x)) → sections_refusal old base (map (λ part. part.section) parts) ≡ None → sections_refusal new base (map (λ part. part.section) parts) ≡ None
+pub still_free : (old new : Cells) (base : ℕ) (image : ImageParts) (parts : List SectionPart) → All (IsSectionLaidOut image) parts → ((x : ℕ) → new x ≡ option_or (old x) (range_cell base image.header_size image.headers read_only x)) → sections_refusal old base (map (λ part. part.section) parts) ≡ None → sections_refusal new base (map (λ part. part.section) parts) ≡ None
 still_free old new base image [] laid added free = refl
 still_free old new base image (part ∷ parts) laid added free =
     let both : (region_refusal old (base + part.section.rva) part.section.span ≡ None) × (sections_refusal old base (map (λ part. part.section) parts) ≡ None) = either_none _ _ free in
@@ -86,7 +87,7 @@ still_free old new base image (part ∷ parts) laid added free =
     let same : region_refusal new (base + part.section.rva) part.section.span ≡ region_refusal old (base + part.section.rva) part.section.span = region_refusal-same new old (base + part.section.rva) part.section.span (λ k less.
     let x = base + part.section.rva + k in
     let behind : image.header_size ≤ part.section.rva = here.behind_headers (omega arith) in
-    added x ∙ ap (either_of (old x)) (range_cell-out base image.header_size image.headers read_only x (λ _. omega arith)) ∙ either_none_right (old x)) in
+    added x ∙ ap (option_or (old x)) (range_cell-out base image.header_size image.headers read_only x (λ _. omega arith)) ∙ either_none_right (old x)) in
     rw (same, both.0) (still_free old new base image parts (All-tail (IsSectionLaidOut image) part parts laid) added both.1)
 
 -- ---- a refusal that leaves what holds anyway

@@ -7,7 +7,7 @@ use Rattle.pe_image.specs.Image.{SectionPart}
 use Rattle.pe_image.specs.Sections.{seen, IsLow}
 use Rattle.pe_image.specs.Lookup.{holds_word, half_of, word_of}
 use Rattle.pe_image.specs.Relocations.{relocated_word, listed, entries_from, is_over, block_at, blocks_from}
-use Rattle.pe_image.specs.Outcome.{◌>>=◌}
+use Rattle.nd_base.specs.Results.{◌>>=◌}
 
 abbrev pub no_part : Part
 no_part = record {

@@ -15,7 +15,7 @@ use Rattle.pe_image.specs.Grammar.{IsSpan, IsRaw, IsSection, AreSections, LiesIn
 use Rattle.pe_image.specs.Sections.{section_table, sections_in, end_of, meets, is_inside, overlaps, section_judged, sections_judged, section_part, HasRawPart}
 use Rattle.pe_image.specs.Spellings.{IsShared}
 use Rattle.pe_image.specs.Image.{SectionPart, ImageParts, AreApart}
-use Rattle.pe_image.specs.Outcome.{◌>>=◌, require}
+use Rattle.nd_base.specs.Results.{◌>>=◌, require}
 use Rattle.pe_image.proofs.Judged.{bind_ok, require_ok, ok_is, IsInside}
 use Rattle.pe_image.proofs.LaidOut.{MeetsNone, IsPlaced, all_placed, all_apart}
 use Rattle.pe_image.proofs.Spelled.{shares}

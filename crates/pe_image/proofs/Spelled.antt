@@ -12,7 +12,8 @@ use Rattle.pe_image.specs.Lookup.{section_byte, half_of, word_of, has_word, sect
 use Rattle.pe_image.specs.Relocations.{relocated_word, listed, entries_from, is_over, is_block, block_at, blocks_from, relocations_in}
 use Rattle.pe_image.specs.Sections.{end_of, meets, IsLow}
 use Rattle.pe_image.specs.Imports.{is_printable, text_from, name_at, named_import, import_at, continued, imports_from, descriptor_at, imports_of, descriptors_from, most_descriptors, imports_in}
-use Rattle.pe_image.specs.Outcome.{◌>>=◌, require, found_or}
+use Rattle.nd_base.specs.Results.{◌>>=◌, require}
+use Rattle.std.specs.Option.{ok_or}
 use Rattle.pe_image.specs.Spellings.{IsText, IsName, IsShared, Block, AreEntries, IsBlock, IsOver, AreBlocks, Relocates, RelocateInPage, Relocate, IsThunk, AreThunks, StandsAt, AreDescriptors, joined}
 use Rattle.pe_image.proofs.Judged.{bind_ok, require_ok, ok_is}
 use Rattle.pe_image.proofs.LaidOut.{any_word, chosen, found_is, some_of}
@@ -22,7 +23,7 @@ text_read : (parts : List SectionPart) (e : PeRefusal) (rva n : ℕ) (text : Lis
 unfolding text_from
 text_read parts e rva zero text h = absurd cc
 text_read parts e rva (suc n) text h =
-    let a = bind_ok (found_or e (section_byte parts rva)) (λ byte. if byte == 0 then Ok [] else require (is_printable byte) e >>= λ _. text_from parts e (rva + 1) n >>= λ others. Ok (byte ∷ others)) text h in
+    let a = bind_ok (ok_or (section_byte parts rva) e) (λ byte. if byte == 0 then Ok [] else require (is_printable byte) e >>= λ _. text_from parts e (rva + 1) n >>= λ others. Ok (byte ∷ others)) text h in
     let there : section_byte parts rva ≡ Some a.0 = found_is e (section_byte parts rva) a.0 a.1 in
     elim (chosen (a.0 == 0) (Ok []) (require (is_printable a.0) e >>= λ _. text_from parts e (rva + 1) n >>= λ others. Ok (a.0 ∷ others)) (Ok text) a.2) [
       | inl none ↦ subst (λ (t : List ℕ). IsText parts rva t × (length t < suc n)) (ok_is [] text none.1) (there ∙ ap Some (eqb-true a.0 0 none.0), omega arith)
@@ -176,7 +177,7 @@ unfolding word_at
 word_past parts rva low past = last_missing (section_byte parts rva) (section_byte parts (rva + 1)) (section_byte parts (rva + 2)) (section_byte parts (rva + 3)) (byte_past parts (rva + 3) low past)
 
 five_fields : (refusal : PeRefusal) (make : ℕ → ℕ → ℕ → Descriptor) (a b c d e : Option ℕ) → e ≡ None
-    → (found_or refusal a >>= λ original. found_or refusal b >>= λ _. found_or refusal c >>= λ _. found_or refusal d >>= λ name. found_or refusal e >>= λ first. Ok (make original name first)) ≡ Err refusal
+    → (ok_or a refusal >>= λ original. ok_or b refusal >>= λ _. ok_or c refusal >>= λ _. ok_or d refusal >>= λ name. ok_or e refusal >>= λ first. Ok (make original name first)) ≡ Err refusal
 five_fields refusal make None b c d e is = refl
 five_fields refusal make (Some v) None c d e is = refl
 five_fields refusal make (Some v) (Some w) None d e is = refl
@@ -217,8 +218,8 @@ record IsNamed (parts : List SectionPart) (dll : List ℕ) (slot word : ℕ) (fo
 named_read : (parts : List SectionPart) (dll : List ℕ) (thunk slot word : ℕ) (found : Option ImportParts) → named_import parts dll thunk slot word ≡ Ok found → IsNamed parts dll slot word found
 unfolding named_import
 named_read parts dll thunk slot word found e =
-    let a = bind_ok (require (nat_lt word 0x80000000) (Ordinal thunk)) (λ _. found_or (BadImport slot) (word_at parts slot) >>= λ _. name_at parts (word + 2) >>= λ name. Ok (Some (record { dll = dll; name = name; slot = slot }))) found e in
-    let b = bind_ok (found_or (BadImport slot) (word_at parts slot)) (λ _. name_at parts (word + 2) >>= λ name. Ok (Some (record { dll = dll; name = name; slot = slot }))) found a.2 in
+    let a = bind_ok (require (nat_lt word 0x80000000) (Ordinal thunk)) (λ _. ok_or (word_at parts slot) (BadImport slot) >>= λ _. name_at parts (word + 2) >>= λ name. Ok (Some (record { dll = dll; name = name; slot = slot }))) found e in
+    let b = bind_ok (ok_or (word_at parts slot) (BadImport slot)) (λ _. name_at parts (word + 2) >>= λ name. Ok (Some (record { dll = dll; name = name; slot = slot }))) found a.2 in
     let c = bind_ok (name_at parts (word + 2)) (λ name. Ok (Some (record { dll = dll; name = name; slot = slot }))) found b.2 in
     record {
       text = c.0;
@@ -236,7 +237,7 @@ Imports parts dll thunk slot (Some function) = IsThunk parts dll thunk slot func
 import_read : (parts : List SectionPart) (dll : List ℕ) (thunk slot : ℕ) (found : Option ImportParts) → import_at parts dll thunk slot ≡ Ok found → Imports parts dll thunk slot found
 unfolding import_at
 import_read parts dll thunk slot found e =
-    let a = bind_ok (found_or (BadImport thunk) (word_at parts thunk)) (λ word. if word == 0 then Ok None else named_import parts dll thunk slot word) found e in
+    let a = bind_ok (ok_or (word_at parts thunk) (BadImport thunk)) (λ word. if word == 0 then Ok None else named_import parts dll thunk slot word) found e in
     let stands : word_at parts thunk ≡ Some a.0 = found_is (BadImport thunk) (word_at parts thunk) a.0 a.1 in
     elim (chosen (a.0 == 0) (Ok None) (named_import parts dll thunk slot a.0) (Ok found) a.2) [
       | inl none ↦ subst (Imports parts dll thunk slot) (ok_is None found none.1) (stands ∙ ap Some (eqb-true a.0 0 none.0))
@@ -285,7 +286,7 @@ descriptor_read : (parts : List SectionPart) (rva : ℕ) (head : Descriptor) →
 unfolding descriptor_at
 descriptor_read parts rva head e =
     let refusal = BadImport rva in
-    let read : ℕ → Result ℕ PeRefusal = λ at. found_or refusal (word_at parts at) in
+    let read : ℕ → Result ℕ PeRefusal = λ at. ok_or (word_at parts at) refusal in
     let a = bind_ok (read rva) (λ original. read (rva + 4) >>= λ _. read (rva + 8) >>= λ _. read (rva + 12) >>= λ name. read (rva + 16) >>= λ first. Ok (descriptor_of original name first)) head e in
     let b = bind_ok (read (rva + 4)) (λ _. read (rva + 8) >>= λ _. read (rva + 12) >>= λ name. read (rva + 16) >>= λ first. Ok (descriptor_of a.0 name first)) head a.2 in
     let c = bind_ok (read (rva + 8)) (λ _. read (rva + 12) >>= λ name. read (rva + 16) >>= λ first. Ok (descriptor_of a.0 name first)) head b.2 in

@@ -4,7 +4,7 @@ use Rattle.std.proofs.lemmas.Bool.{le-leb, lt-leb}
 use Rattle.pe_image.specs.declared.refusal.PeRefusal.TheVariants.{Short}
 use Rattle.pe_image.specs.File.{section_header}
 use Rattle.pe_image.specs.Sections.{section_table}
-use Rattle.pe_image.specs.Outcome.{◌>>=◌}
+use Rattle.nd_base.specs.Results.{◌>>=◌}
 
 pub table-step : (bytes : List ℕ) (at n : ℕ) → at + 40 ≤ length bytes → section_table bytes at (suc n) ≡ (section_table bytes (at + 40) n >>= λ others. Ok (section_header bytes at ∷ [] ++ others))
 unfolding section_table

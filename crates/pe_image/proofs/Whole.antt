@@ -4,7 +4,8 @@ use Rattle.std.specs.List.{AllPairs}
 use Rattle.std.proofs.lemmas.Bool.{cases_lt}
 use Rattle.std.proofs.lemmas.List.{get_or-take, get_or-drop, get_or-map, length-map, take-map}
 use Rattle.nd_mem.specs.Cell.{Cell, cell_with}
-use Rattle.nd_mem.specs.Space.{Cells, either_of}
+use Rattle.std.specs.Option.{option_or}
+use Rattle.nd_mem.specs.Space.{Cells}
 use Rattle.nd_mem.specs.declared.Rights.{Rights}
 use Rattle.pe_image.specs.declared.headers.Section.{Section}
 use Rattle.pe_image.specs.Image.{SectionPart, ImageParts, range_cell, read_only, section_cell, sections_cell, image_cells, front_cells, map_refusal, sections_of, IsSectionLaidOut, IsLaidOut}
@@ -59,15 +60,15 @@ filled_is : (base : ℕ) (contents : List ℕ) (parts : List SectionPart) (a : �
 filled_is base contents [] a = refl
 filled_is base contents (part ∷ parts) a =
     let byte = get_or contents (a - base) 0 in
-    ap (λ o. either_of o (filled_cell base contents (map (λ p. p.section) parts) a)) (filled_one base contents part.section.rva part.section.span part.bytes part.section.rights a)
-    ∙ ap (either_of (cell_with byte (section_cell base part a))) (filled_is base contents parts a)
+    ap (λ o. option_or o (filled_cell base contents (map (λ p. p.section) parts) a)) (filled_one base contents part.section.rva part.section.span part.bytes part.section.rights a)
+    ∙ ap (option_or (cell_with byte (section_cell base part a))) (filled_is base contents parts a)
     ∙ sym (cell_with-either byte (section_cell base part a) (sections_cell base parts a))
 
 some_with : (byte : ℕ) (o : Option Cell) (cell : Cell) (P : Type 0) → ((found : Cell) → o ≡ Some found → P) → cell_with byte o ≡ Some cell → P
 some_with byte None cell P f is = absurd (cc)
 some_with byte (Some found) cell P f is = f found refl
 
-exchange : (old : Cells) (base : ℕ) (image : ImageParts) (bytes : List ℕ) (x : ℕ) → map_refusal old base image ≡ None → either_of (old x) (shown image base bytes x) ≡ either_of (shown image base bytes x) (old x)
+exchange : (old : Cells) (base : ℕ) (image : ImageParts) (bytes : List ℕ) (x : ℕ) → map_refusal old base image ≡ None → option_or (old x) (shown image base bytes x) ≡ option_or (shown image base bytes x) (old x)
 unfolding shown headers_cell
 exchange old base image bytes x free =
     let both = either_none _ _ free in
@@ -78,23 +79,23 @@ exchange old base image bytes x free =
 
 -- headers, and then sections with the image's contents
 pub whole_image : (old mid new : Cells) (base : ℕ) (image : ImageParts) (slots : List ℕ) → IsLaidOut image → map_refusal old base image ≡ None
-    → ((x : ℕ) → mid x ≡ either_of (old x) (range_cell base image.header_size image.headers read_only x))
-    → ((x : ℕ) → new x ≡ either_of (mid x) (filled_cell base (contents_of image base slots) (sections_of image) x))
-    → (x : ℕ) → new x ≡ either_of (image_cells image base slots x) (old x)
+    → ((x : ℕ) → mid x ≡ option_or (old x) (range_cell base image.header_size image.headers read_only x))
+    → ((x : ℕ) → new x ≡ option_or (mid x) (filled_cell base (contents_of image base slots) (sections_of image) x))
+    → (x : ℕ) → new x ≡ option_or (image_cells image base slots x) (old x)
 unfolding shown headers_cell
 whole_image old mid new base image slots laid free headers sections x =
     let bytes = contents_of image base slots in
     let filled = filled_cell base bytes (sections_of image) x in
     let shown_at : Option Cell = shown image base bytes x in
     sections x
-    ∙ ap (λ o. either_of o filled) (headers x)
+    ∙ ap (λ o. option_or o filled) (headers x)
     ∙ either_assoc (old x) (headers_cell image base x) filled
-    ∙ ap (λ o. either_of (old x) (either_of (headers_cell image base x) o)) (filled_is base bytes image.sections x)
+    ∙ ap (λ o. option_or (old x) (option_or (headers_cell image base x) o)) (filled_is base bytes image.sections x)
     ∙ exchange old base image bytes x free
-    ∙ ap (λ (cells : Cells). either_of (cells x) (old x)) (sym (image_cells_shown image base slots laid))
+    ∙ ap (λ (cells : Cells). option_or (cells x) (old x)) (sym (image_cells_shown image base slots laid))
 
 -- ---- the first sections alone
-either_front : (o s whole : Option Cell) (cell : Cell) → (s ≡ Some cell → whole ≡ Some cell) → either_of o s ≡ Some cell → either_of o whole ≡ Some cell
+either_front : (o s whole : Option Cell) (cell : Cell) → (s ≡ Some cell → whole ≡ Some cell) → option_or o s ≡ Some cell → option_or o whole ≡ Some cell
 either_front None s whole cell same is = same is
 either_front (Some found) s whole cell same is = is
 
@@ -105,16 +106,16 @@ sections_front base (part ∷ parts) zero a cell is = absurd cc
 sections_front base (part ∷ parts) (suc n) a cell is =
     either_front (section_cell base part a) (sections_cell base (take n parts) a) (sections_cell base parts a) cell (sections_front base parts n a cell) is
 
-front_of : (headers front whole shown_at : Option Cell) (byte : ℕ) → shown_at ≡ either_of headers (cell_with byte whole) → ((cell : Cell) → front ≡ Some cell → whole ≡ Some cell)
-    → either_of headers (cell_with byte front) ≡ (if is_some (either_of headers front) then shown_at else None)
+front_of : (headers front whole shown_at : Option Cell) (byte : ℕ) → shown_at ≡ option_or headers (cell_with byte whole) → ((cell : Cell) → front ≡ Some cell → whole ≡ Some cell)
+    → option_or headers (cell_with byte front) ≡ (if is_some (option_or headers front) then shown_at else None)
 front_of (Some cell) front whole shown_at byte is same = sym is
 front_of None None whole shown_at byte is same = refl
 front_of None (Some cell) whole shown_at byte is same = sym (is ∙ ap (cell_with byte) (same cell refl))
 
 pub front_image : (old mid new : Cells) (base : ℕ) (image : ImageParts) (slots : List ℕ) (n : ℕ) → IsLaidOut image
-    → ((x : ℕ) → mid x ≡ either_of (old x) (range_cell base image.header_size image.headers read_only x))
-    → ((x : ℕ) → new x ≡ either_of (mid x) (filled_cell base (contents_of image base slots) (take n (sections_of image)) x))
-    → (x : ℕ) → new x ≡ either_of (old x) (front_cells image base slots n x)
+    → ((x : ℕ) → mid x ≡ option_or (old x) (range_cell base image.header_size image.headers read_only x))
+    → ((x : ℕ) → new x ≡ option_or (mid x) (filled_cell base (contents_of image base slots) (take n (sections_of image)) x))
+    → (x : ℕ) → new x ≡ option_or (old x) (front_cells image base slots n x)
 unfolding shown headers_cell
 front_image old mid new base image slots n laid headers sections x =
     let bytes = contents_of image base slots in
@@ -124,8 +125,8 @@ front_image old mid new base image slots n laid headers sections x =
     let filled_front : filled ≡ cell_with byte (sections_cell base front x) =
     ap (λ (listed : List Section). filled_cell base bytes listed x) (take-map (λ (part : SectionPart). part.section) n image.sections) ∙ filled_is base bytes front x in
     sections x
-    ∙ ap (λ o. either_of o filled) (headers x)
+    ∙ ap (λ o. option_or o filled) (headers x)
     ∙ either_assoc (old x) (headers_cell image base x) filled
-    ∙ ap (λ o. either_of (old x) (either_of (headers_cell image base x) o)) filled_front
-    ∙ ap (either_of (old x)) (front_of (headers_cell image base x) (sections_cell base front x) (sections_cell base image.sections x) (image_cells image base slots x) byte
+    ∙ ap (λ o. option_or (old x) (option_or (headers_cell image base x) o)) filled_front
+    ∙ ap (option_or (old x)) (front_of (headers_cell image base x) (sections_cell base front x) (sections_cell base image.sections x) (image_cells image base slots x) byte
     (ap (λ (cells : Cells). cells x) (image_cells_shown image base slots laid)) (sections_front base image.sections n x))

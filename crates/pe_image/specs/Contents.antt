@@ -4,7 +4,7 @@
 use Rattle.std.specs.Prelude.{◌≤◌, ℕ, ◌+◌, ◌%◌, ◌^◌, List, [], ◌∷◌, ◌++◌, length, take, drop, replicate, Option, None}
 use Rattle.byteorder.specs.Endian.{little_number, little_bytes}
 use Rattle.nd_mem.specs.Cell.{Cell}
-use Rattle.nd_mem.specs.Space.{either_of}
+use Rattle.std.specs.Option.{option_or}
 use Rattle.pe_image.specs.declared.headers.Section.{Section}
 use Rattle.pe_image.specs.Image.{SectionPart, ImageParts, ImportParts, range_cell, delta}
 
@@ -44,7 +44,7 @@ contents_of image base slots =
 abbrev pub filled_cell : (base : ℕ) → (contents : List ℕ) → List Section → ℕ → Option Cell
 filled_cell base contents [] a = None
 filled_cell base contents (section ∷ sections) a =
-    either_of (range_cell (base + section.rva) section.span (take section.span (drop section.rva contents)) section.rights a) (filled_cell base contents sections a)
+    option_or (range_cell (base + section.rva) section.span (take section.span (drop section.rva contents)) section.rights a) (filled_cell base contents sections a)
 
 -- no byte is in both sections
 abbrev pub AreDisjoint : Section → Section → Type 0

@@ -6,7 +6,7 @@ use Rattle.pe_image.specs.declared.headers.FileHeader.{FileHeader}
 use Rattle.pe_image.specs.declared.headers.OptionalHeader.{OptionalHeader}
 use Rattle.pe_image.specs.declared.headers.Headers.{Headers}
 use Rattle.pe_image.specs.File.{u16_at, u32_at, file_header, optional_header}
-use Rattle.pe_image.specs.Outcome.{◌>>=◌, require}
+use Rattle.nd_base.specs.Results.{◌>>=◌, require}
 
 -- 64 bytes of DOS header, whose e_magic is IMAGE_DOS_SIGNATURE, `MZ`; its e_lfanew is the offset of the signature
 unfoldable pub dos_header : List ℕ → Result ℕ PeRefusal

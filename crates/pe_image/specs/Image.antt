@@ -4,7 +4,8 @@ use Rattle.std.specs.Prelude.{◌≡◌, ℕ, ◌+◌, ◌-◌, ◌%◌, ◌^◌
 use Rattle.std.specs.List.{AllPairs}
 use Rattle.byteorder.specs.Endian.{little_number, little_bytes}
 use Rattle.nd_mem.specs.Cell.{Cell, cell_with}
-use Rattle.nd_mem.specs.Space.{Cells, either_of, byte_in, region_refusal}
+use Rattle.std.specs.Option.{option_or}
+use Rattle.nd_mem.specs.Space.{Cells, byte_in, region_refusal}
 use Rattle.nd_mem.specs.declared.Rights.{Rights}
 use Rattle.nd_mem.specs.declared.RegionRefusal.{RegionRefusal}
 use Rattle.pe_image.specs.declared.headers.Section.{Section}
@@ -54,11 +55,11 @@ section_cell base part a = range_cell (base + part.section.rva) part.section.spa
 
 abbrev pub sections_cell : (base : ℕ) → List SectionPart → ℕ → Option Cell
 sections_cell base [] a = None
-sections_cell base (part ∷ parts) a = either_of (section_cell base part a) (sections_cell base parts a)
+sections_cell base (part ∷ parts) a = option_or (section_cell base part a) (sections_cell base parts a)
 
 -- what the file's bytes, laid out from `base` on, have at an address: the headers for reading alone, and each section with its rights
 abbrev pub image_cell : ImageParts → (base a : ℕ) → Option Cell
-image_cell image base a = either_of (range_cell base image.header_size image.headers read_only a) (sections_cell base image.sections a)
+image_cell image base a = option_or (range_cell base image.header_size image.headers read_only a) (sections_cell base image.sections a)
 
 -- ---- what the loader changes of it
 -- bytes from an address on become these: rights stay, and what is not mapped stays so
@@ -112,16 +113,16 @@ front_cells image base slots n a =
 -- mapped stays.
 abbrev pub HasGainedPart : ImageParts → (base : ℕ) → (slots : List ℕ) → (old new : Cells) → Type 0
 HasGainedPart image base slots old new =
-    ((a : ℕ) → new a ≡ old a) ⊎ ((n : ℕ) × (n < length image.sections) × ((a : ℕ) → new a ≡ either_of (old a) (front_cells image base slots n a)))
+    ((a : ℕ) → new a ≡ old a) ⊎ ((n : ℕ) × (n < length image.sections) × ((a : ℕ) → new a ≡ option_or (old a) (front_cells image base slots n a)))
 
 -- ---- whether it can be mapped
 abbrev pub sections_refusal : Cells → (base : ℕ) → List Section → Option RegionRefusal
 sections_refusal cells base [] = None
-sections_refusal cells base (section ∷ sections) = either_of (region_refusal cells (base + section.rva) section.span) (sections_refusal cells base sections)
+sections_refusal cells base (section ∷ sections) = option_or (region_refusal cells (base + section.rva) section.span) (sections_refusal cells base sections)
 
 -- why the image can't be mapped at `base`: the headers' range can't be added, or else the first section's that can't
 abbrev pub map_refusal : Cells → (base : ℕ) → ImageParts → Option RegionRefusal
-map_refusal cells base image = either_of (region_refusal cells base image.header_size) (sections_refusal cells base (sections_of image))
+map_refusal cells base image = option_or (region_refusal cells base image.header_size) (sections_refusal cells base (sections_of image))
 
 -- ---- what each image that was read keeps
 -- the byte at an RVA is one of the section's

@@ -6,7 +6,8 @@ use Rattle.pe_image.specs.declared.refusal.PeRefusal.TheVariants.{BadImport, Ord
 use Rattle.pe_image.specs.declared.imports.Descriptor.{Descriptor}
 use Rattle.pe_image.specs.Image.{SectionPart, ImportParts}
 use Rattle.pe_image.specs.Lookup.{section_byte, word_at}
-use Rattle.pe_image.specs.Outcome.{◌>>=◌, require, found_or}
+use Rattle.nd_base.specs.Results.{◌>>=◌, require}
+use Rattle.std.specs.Option.{ok_or}
 
 -- ---- names
 abbrev pub is_printable : ℕ → Bool
@@ -15,7 +16,7 @@ is_printable byte = nat_le 0x20 byte && nat_le byte 0x7E
 -- The printable text at an RVA, up to a zero byte among the first n; or a refusal.
 unfoldable pub text_from : List SectionPart → PeRefusal → (rva n : ℕ) → Result (List ℕ) PeRefusal
 text_from parts refusal rva zero = Err refusal
-text_from parts refusal rva (suc n) = found_or refusal (section_byte parts rva) >>= λ byte.
+text_from parts refusal rva (suc n) = ok_or (section_byte parts rva) refusal >>= λ byte.
     if byte == 0 then Ok []
     else require (is_printable byte) refusal >>= λ _. text_from parts refusal (rva + 1) n >>= λ others. Ok (byte ∷ others)
 
@@ -31,14 +32,14 @@ name_at parts rva = do
 unfoldable pub named_import : List SectionPart → (dll : List ℕ) → (thunk slot word : ℕ) → Result (Option ImportParts) PeRefusal
 named_import parts dll thunk slot word = do
   _ ← require (nat_lt word 0x80000000) (Ordinal thunk)
-  _ ← found_or (BadImport slot) (word_at parts slot)
+  _ ← ok_or (word_at parts slot) (BadImport slot)
   name ← name_at parts (word + 2)
   Ok (Some (record { dll = dll; name = name; slot = slot }))
 
 -- what a thunk imports; a zero thunk is the list's end
 unfoldable pub import_at : List SectionPart → (dll : List ℕ) → (thunk slot : ℕ) → Result (Option ImportParts) PeRefusal
 import_at parts dll thunk slot =
-    found_or (BadImport thunk) (word_at parts thunk) >>= λ word. if word == 0 then Ok None else named_import parts dll thunk slot word
+    ok_or (word_at parts thunk) (BadImport thunk) >>= λ word. if word == 0 then Ok None else named_import parts dll thunk slot word
 
 abbrev pub continued : Option ImportParts → Result (List ImportParts) PeRefusal → Result (List ImportParts) PeRefusal
 continued None others = Ok []
@@ -51,7 +52,7 @@ imports_from parts dll thunk slot (suc n) = import_at parts dll thunk slot >>= �
 
 -- ---- the Import Table
 abbrev pub field : List SectionPart → (structure rva : ℕ) → Result ℕ PeRefusal
-field parts structure rva = found_or (BadImport structure) (word_at parts rva)
+field parts structure rva = ok_or (word_at parts rva) (BadImport structure)
 
 -- A descriptor of 20 bytes: OriginalFirstThunk, TimeDateStamp, ForwarderChain, Name and FirstThunk. All of it lies in the sections, though
 -- what TimeDateStamp and ForwarderChain say is not asked for. Its thunks are read at OriginalFirstThunk, or at FirstThunk where that is 0.

@@ -1,12 +1,14 @@
 pub mod Contents
 pub mod File
+pub mod Gathering
 pub mod Grammar
 pub mod Headers
 pub mod Image
+pub mod Held
 pub mod Imports
 pub mod Inside
+pub mod Limits
 pub mod Lookup
-pub mod Outcome
 pub mod Reading
 pub mod Relocations
 pub mod Sections

@@ -3,6 +3,7 @@ use Rattle.std.specs.Prelude.{ℕ, ◌+◌, ◌-◌, Bool, ◌&&◌, nat_le, nat
 use Rattle.std.specs.List.{list_any}
 use Rattle.std.specs.Option.{option_map}
 use Rattle.byteorder.specs.Endian.{little_number}
+use Rattle.nd_base.specs.Options.{◌>>=◌}
 use Rattle.pe_image.specs.Image.{SectionPart}
 
 -- a section has the byte at an RVA; the 4 bytes of the word there
@@ -30,11 +31,6 @@ section_with (part ∷ parts) rva = if holds_byte part rva then Some part else s
 -- all 4 bytes of the word at an RVA are in one section
 abbrev pub has_word : List SectionPart → ℕ → Bool
 has_word parts rva = list_any (λ part. holds_word part rva) parts
-
-infixl 10 ◌>>=◌
-abbrev pub ◌>>=◌ : {A B : Type 0} → Option A → (A → Option B) → Option B
-None >>= f = None
-(Some x) >>= f = f x
 
 -- the byte at an RVA, where a section has it
 unfoldable pub section_byte : List SectionPart → ℕ → Option ℕ

@@ -1,5 +1,5 @@
 -- The reading of a PE32 image for i386, with the first thing that is wrong with it (Microsoft PE/COFF specification).
-use Rattle.std.specs.Prelude.{ℕ, Bool, ◌&&◌, ◌||◌, ◌==◌, nat_le, bit_and, is_some, List, length, take, Result, Ok}
+use Rattle.std.specs.Prelude.{ℕ, Bool, ◌&&◌, ◌||◌, ◌==◌, nat_le, bit_and, is_some, List, length, take, Option, Result, Ok}
 use Rattle.std.specs.List.{list_any}
 use Rattle.pe_image.specs.declared.refusal.PeRefusal.{PeRefusal}
 use Rattle.pe_image.specs.declared.refusal.PeRefusal.TheVariants.{TooLarge, BadEntry, BadDirectory, RelocsStripped}
@@ -10,7 +10,7 @@ use Rattle.pe_image.specs.Sections.{sections_in}
 use Rattle.pe_image.specs.Lookup.{holds_byte, section_with}
 use Rattle.pe_image.specs.Relocations.{relocation_section, relocations_in}
 use Rattle.pe_image.specs.Imports.{imports_in}
-use Rattle.pe_image.specs.Outcome.{◌>>=◌, require}
+use Rattle.nd_base.specs.Results.{◌>>=◌, require}
 
 -- a section that can be executed has the entry point
 abbrev pub has_entry : List SectionPart → (entry : ℕ) → Bool
@@ -36,16 +36,31 @@ image_of bytes headers sections relocations imports = record {
   imports = imports;
 }
 
+-- what is left to read behind the relocations
+abbrev pub imported : List ℕ → Headers → List SectionPart → (relocations : List ℕ) → Result ImageParts PeRefusal
+imported bytes headers sections relocations = do
+  _ ← require (can_be_placed headers) RelocsStripped
+  imports ← imports_in sections headers.image.imports.rva
+  Ok (image_of bytes headers sections relocations imports)
+
+-- what is left to read where the section of the Base Relocation Table is known
+abbrev pub relocated : List ℕ → Headers → List SectionPart → (table : Option SectionPart) → Result ImageParts PeRefusal
+relocated bytes headers sections table = do
+  relocations ← relocations_in sections headers.image.relocations table
+  imported bytes headers sections relocations
+
+-- what is left to read behind the sections
+abbrev pub entered : List ℕ → Headers → List SectionPart → Result ImageParts PeRefusal
+entered bytes headers sections = do
+  _ ← require (has_entry sections headers.image.entry) BadEntry
+  _ ← require (is_placed sections headers.image.imports.rva) (BadDirectory 1)
+  table ← relocation_section sections headers.image.relocations
+  relocated bytes headers sections table
+
 -- the image in a file of at most 4 MiB
 unfoldable pub reading : List ℕ → Result ImageParts PeRefusal
 reading bytes = do
   _ ← require (nat_le (length bytes) 0x400000) TooLarge
   headers ← headers_of bytes
   sections ← sections_in bytes headers
-  _ ← require (has_entry sections headers.image.entry) BadEntry
-  _ ← require (is_placed sections headers.image.imports.rva) (BadDirectory 1)
-  table ← relocation_section sections headers.image.relocations
-  relocations ← relocations_in sections headers.image.relocations table
-  _ ← require (can_be_placed headers) RelocsStripped
-  imports ← imports_in sections headers.image.imports.rva
-  Ok (image_of bytes headers sections relocations imports)
+  entered bytes headers sections

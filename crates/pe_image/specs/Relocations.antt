@@ -5,7 +5,8 @@ use Rattle.pe_image.specs.declared.refusal.PeRefusal.TheVariants.{BadReloc, BadD
 use Rattle.pe_image.specs.declared.headers.Directory.{Directory}
 use Rattle.pe_image.specs.Image.{SectionPart}
 use Rattle.pe_image.specs.Lookup.{half_of, word_of, section_with, has_word}
-use Rattle.pe_image.specs.Outcome.{◌>>=◌, require, found_or}
+use Rattle.nd_base.specs.Results.{◌>>=◌, require}
+use Rattle.std.specs.Option.{ok_or}
 
 -- An entry has its type in the upper 4 bits and an offset in the page in the lower 12. IMAGE_REL_BASED_ABSOLUTE, 0, says nothing.
 -- IMAGE_REL_BASED_HIGHLOW, 3, relocates the word there, which lies in one section.
@@ -51,7 +52,7 @@ blocks_from parts table end rva (suc n) =
 unfoldable pub relocation_section : List SectionPart → Directory → Result (Option SectionPart) PeRefusal
 relocation_section parts directory =
     if directory.rva == 0 then Ok None
-    else found_or (BadDirectory 5) (section_with parts directory.rva) >>= λ part.
+    else ok_or (section_with parts directory.rva) (BadDirectory 5) >>= λ part.
     require (nat_le (directory.rva + directory.size) (part.section.rva + part.section.span)) (BadDirectory 5) >>= λ _. Ok (Some part)
 
 -- the words that the table relocates, in order; each of its blocks has at least 8 bytes

@@ -9,7 +9,7 @@ use Rattle.pe_image.specs.declared.headers.Headers.{Headers}
 use Rattle.pe_image.specs.declared.sections.Part.{Part}
 use Rattle.pe_image.specs.File.{section_header, span_of, raw_of, section_of}
 use Rattle.pe_image.specs.Image.{SectionPart}
-use Rattle.pe_image.specs.Outcome.{◌>>=◌, require}
+use Rattle.nd_base.specs.Results.{◌>>=◌, require}
 
 -- the headers of the section table, 40 bytes each
 unfoldable pub section_table : List ℕ → (at count : ℕ) → Result (List SectionHeader) PeRefusal

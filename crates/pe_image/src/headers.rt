@@ -71,7 +71,7 @@ fn dos_header(bytes: &[u8]) -> Result<u32, PeRefusal>
 }
 
 /// The signature, and the fields of the COFF file header that are asked for.
-#[derive(Clone, Copy, Debug, PartialEq, Eq)]
+#[derive(Clone, Copy)]
 pub struct FileHeader {
     pub signature: u32,
     pub machine: u16,
@@ -120,7 +120,7 @@ impl FileHeader {
 }
 
 /// A data directory: where a table of the image lies, and how many bytes it has.
-#[derive(Clone, Copy, Debug, PartialEq, Eq)]
+#[derive(Clone, Copy)]
 pub struct Directory {
     /// The table's RVA, or 0.
     pub rva: u32,
@@ -147,7 +147,7 @@ impl Directory {
 }
 
 /// The fields of the optional header that are asked for.
-#[derive(Clone, Copy, Debug, PartialEq, Eq)]
+#[derive(Clone, Copy)]
 pub struct OptionalHeader {
     pub magic: u16,
     /// AddressOfEntryPoint, an RVA.
@@ -202,7 +202,7 @@ impl OptionalHeader {
 }
 
 /// The headers of a file in front of its section table.
-#[derive(Clone, Copy, Debug, PartialEq, Eq)]
+#[derive(Clone, Copy)]
 pub struct Headers {
     pub file: FileHeader,
     pub image: OptionalHeader,
@@ -236,7 +236,7 @@ impl Headers {
 }
 
 /// A header of the section table.
-#[derive(Clone, Copy, Debug, PartialEq, Eq)]
+#[derive(Clone, Copy, Default)]
 pub struct SectionHeader {
     pub name: [u8; 8],
     pub virtual_size: u32,

@@ -1,11 +1,11 @@
 //! An image that was read from a PE32 file.
 
 ghost use Rattle.std.specs.Prelude.{◌≡◌, ◌≢◌, Ok, Err, IfOk, IfErr, MatchResult, map};
-ghost use Rattle.pe_image.specs.declared.refusal.PeRefusal.TheVariants.{OutOfMemory};
 ghost use Rattle.pe_image.specs.Grammar.{IsImage};
 ghost use Rattle.pe_image.specs.Image.{ImageParts, IsLaidOut, sections_of};
-ghost use Rattle.pe_image.specs.Reading.{reading, image_of};
-ghost use Rattle.pe_image.specs.Sections.{seen};
+ghost use Rattle.pe_image.specs.Limits.{IsLimited};
+ghost use Rattle.pe_image.specs.Reading.{reading};
+ghost use Rattle.pe_image.specs.Held.{Holds};
 
 use crate::headers::Section;
 use crate::imports::Import;
@@ -13,6 +13,7 @@ use crate::reading::{Contents, read_contents};
 use crate::refusal::PeRefusal;
 use crate::sections::{raw_parts, section_list};
 pub use mapping::ImportAddresses;
+use nd_base::OutOfMemory;
 use std::alloc::Global;
 use std::marker::Model;
 
@@ -54,25 +55,25 @@ impl Image {
         // What is read is the file's image.
         ensures found { IfOk result (λ image. IsImage bytes.now image) }
         // A file that has an image is read, unless memory runs out.
-        ensures only { (image : ImageParts) → IsImage bytes.now image → MatchResult result (λ i. i ≡ image) (λ e. e ≡ OutOfMemory) }
+        ensures only { (image : ImageParts) → IsImage bytes.now image → MatchResult result (λ i. i ≡ image) (λ e. e ≡ PeRefusal.OutOfMemory) }
+        // Want of memory is answered only where nothing is wrong with the file.
+        ensures memory { IfErr result (λ e. e ≡ PeRefusal.OutOfMemory → (image : ImageParts) × IsImage bytes.now image) }
         ensures laid_out { IfOk result IsLaidOut }
     {
         let contents = read_contents(alloc, bytes)?;
-        Image::keep(alloc, bytes, contents)
+        Ok(Image::keep(alloc, bytes, contents)?)
     }
 
-    fn keep(alloc: Global, bytes: &[u8], contents: Contents<'_>) -> Result<Image, PeRefusal>
-        requires { IsLaidOut (image_of bytes.now contents.headers (map seen contents.parts.items) contents.relocations.items contents.imports.items) }
-        ensures ok { IfOk result (λ image. image ≡ image_of bytes.now contents.entry.headers (map seen contents.entry.parts.items) contents.entry.relocations.items contents.entry.imports.items) }
-        ensures err { IfErr result (λ e. e ≡ PeRefusal.OutOfMemory) }
+    fn keep(alloc: Global, bytes: &[u8], contents: Contents<'_>) -> Result<Image, OutOfMemory>
+        requires { (image : ImageParts) × IsLaidOut image × IsLimited image × Holds bytes.now contents image }
+        ensures { (image : ImageParts) → Holds bytes.now contents.entry image → IfOk result (λ kept. kept ≡ image) }
     {
         let Contents {
-            headers,
-            parts,
+            placed,
             relocations,
             imports,
         } = contents;
-        let header = &headers.image;
+        let header = &placed.headers.image;
         let kept = bytes.len().min(header.header_size as usize);
         Ok(Image {
             base: header.image_base,
@@ -80,11 +81,20 @@ impl Image {
             size: header.image_size,
             header_size: header.header_size,
             headers: Vec::from_slice(alloc, &bytes[..kept])?,
-            sections: section_list(alloc, &parts)?,
-            contents: raw_parts(alloc, &parts)?,
-            relocations,
-            imports,
+            sections: section_list(alloc, &placed.parts)?,
+            contents: raw_parts(alloc, &placed.parts)?,
+            relocations: relocations.finish()?,
+            imports: imports.finish()?,
         })
+    }
+
+    /// What every image keeps: its layout (sections apart and inside, the entry point in an
+    /// executable one, relocations and slots in sections) and its limits. It does nothing.
+    pub fn bounds(&self)
+        ensures laid_out { IsLaidOut self.now }
+        ensures limits { IsLimited self.now }
+    {
+        let _ = &self.base;
     }
 
     /// AddressOfEntryPoint, an RVA.

@@ -1,16 +1,19 @@
 //! The functions that an image imports (PE/COFF specification, "The .idata Section").
 
-ghost use Rattle.std.specs.Prelude.{◌≡◌, ◌≤◌, ◌<◌, ◌+◌, ◌-◌, [], length, map, All, OnOk, IfOk, IfErr, IfSome};
+ghost use Rattle.std.specs.Prelude.{◌≡◌, ◌≤◌, ◌<◌, ◌+◌, ◌-◌, [], ◌∷◌, ℕ, List, length, map, All, IfOk, IfSome};
+ghost use Rattle.std.specs.Option.{option_map};
 ghost use Rattle.pe_image.specs.declared.refusal.PeRefusal.TheVariants.{BadImport};
-ghost use Rattle.pe_image.specs.Outcome.{Gives, with_front};
+ghost use Rattle.pe_image.specs.Gathering.{HasGained, Gathers, IsReadInto, Reads};
 ghost use Rattle.pe_image.specs.Sections.{seen, IsLow};
 ghost use Rattle.pe_image.specs.Lookup.{word_at};
 ghost use Rattle.pe_image.specs.Imports.{is_printable, text_from, name_at, named_import, import_at, imports_from, field, descriptor_at, imports_of, descriptors_from, most_descriptors, imports_in};
 
+use crate::gathered::Gathered;
 use crate::lookup::{byte_at, word_at};
 use crate::refusal::PeRefusal;
 use crate::sections::Part;
-use nd_base::Bytes;
+use arrayvec::ArrayVec;
+use nd_base::{Bytes, OutOfMemory};
 use std::alloc::Global;
 
 /// The bytes of a name with the zero byte behind it, at most.
@@ -18,11 +21,14 @@ const LONGEST_NAME: usize = 256;
 /// The bit of a thunk that imports by ordinal.
 const BY_ORDINAL: u32 = 0x8000_0000;
 /// The imports of an image that is read, at most.
-const MOST_IMPORTS: usize = 4096;
+const MOST_IMPORTS: u32 = 4096;
 /// The bytes of a descriptor.
 const DESCRIPTOR_SIZE: u32 = 20;
 /// As many descriptors as 4 MiB have room for.
 const MOST_DESCRIPTORS: u32 = 209_715;
+
+/// A name that is judged: as many bytes as it may have at most.
+type Name = ArrayVec<u8, LONGEST_NAME>;
 
 /// An imported function.
 #[derive(Debug, Drop)]
@@ -53,11 +59,11 @@ fn is_printable(byte: u8) -> bool
 }
 
 /// The printable text at an RVA, up to a zero byte.
-fn text(alloc: Global, parts: &[Part<'_>], rva: u32) -> Result<Bytes, PeRefusal>
+fn text(parts: &[Part<'_>], rva: u32) -> Result<Name, PeRefusal>
     requires { All IsLow (map seen parts.now) }
-    ensures { Gives (λ text. text) result (text_from (map seen parts.now) (BadImport rva) rva 256) }
+    ensures { Reads (λ text. text.items) result (text_from (map seen parts.now) (BadImport rva) rva 256) }
 {
-    let mut text = Bytes::new(alloc);
+    let mut text = Name::new();
     let mut at = rva;
     for _ in 0..LONGEST_NAME {
         let Some(byte) = byte_at(parts, at) else {
@@ -69,7 +75,7 @@ fn text(alloc: Global, parts: &[Part<'_>], rva: u32) -> Result<Bytes, PeRefusal>
         if !is_printable(byte) {
             return Err(PeRefusal::BadImport(rva));
         }
-        text.push(byte)?;
+        text.push(byte);
         at += 1;
     }
     Err(PeRefusal::BadImport(rva))
@@ -77,12 +83,12 @@ fn text(alloc: Global, parts: &[Part<'_>], rva: u32) -> Result<Bytes, PeRefusal>
 
 /// The name at an RVA, of 1 to 255 bytes.
 #[tactic(auto, unfolding(crate::specs::Imports::name_at))]
-fn name(alloc: Global, parts: &[Part<'_>], rva: u32) -> Result<Bytes, PeRefusal>
+fn name(parts: &[Part<'_>], rva: u32) -> Result<Name, PeRefusal>
     requires { All IsLow (map seen parts.now) }
-    ensures { Gives (λ name. name) result (name_at (map seen parts.now) rva) }
+    ensures { Reads (λ name. name.items) result (name_at (map seen parts.now) rva) }
 {
-    let name = text(alloc, parts, rva)?;
-    if name.len() == 0 {
+    let name = text(parts, rva)?;
+    if name.is_empty() {
         return Err(PeRefusal::BadImport(rva));
     }
     Ok(name)
@@ -100,40 +106,30 @@ fn field(parts: &[Part<'_>], structure: u32, rva: u32) -> Result<u32, PeRefusal>
     }
 }
 
-/// What the thunk at an RVA imports, where this word stands there.
+/// The name of what the thunk at an RVA imports, where this word stands there.
 #[tactic(auto, unfolding(crate::specs::Imports::named_import))]
 fn named_import(
-    alloc: Global,
     parts: &[Part<'_>],
-    dll: &Bytes,
     thunk: u32,
     slot: u32,
     word: u32,
-) -> Result<Option<Import>, PeRefusal>
+) -> Result<Option<Name>, PeRefusal>
     requires { All IsLow (map seen parts.now) }
-    ensures value { Gives (λ found. found) result (named_import (map seen parts.now) dll.now thunk slot word) }
+    ensures value { (dll : List ℕ) → Reads (option_map (λ name. record { dll = dll; name = name.items; slot = slot })) result (named_import (map seen parts.now) dll thunk slot word) }
     ensures low { IfOk result (λ _. slot + 4 ≤ 0x400000) }
 {
     if word >= BY_ORDINAL {
         return Err(PeRefusal::Ordinal(thunk));
     }
     field(parts, slot, slot)?;
-    let name = name(alloc, parts, word + 2)?;
-    let dll = dll.copied(alloc)?;
-    Ok(Some(Import { dll, name, slot }))
+    Ok(Some(name(parts, word + 2)?))
 }
 
-/// What the thunk at an RVA imports. There is none at the end of the thunks.
+/// The name of what the thunk at an RVA imports. There is none at the end of the thunks.
 #[tactic(auto, unfolding(crate::specs::Imports::import_at))]
-fn import_at(
-    alloc: Global,
-    parts: &[Part<'_>],
-    dll: &Bytes,
-    thunk: u32,
-    slot: u32,
-) -> Result<Option<Import>, PeRefusal>
+fn import_at(parts: &[Part<'_>], thunk: u32, slot: u32) -> Result<Option<Name>, PeRefusal>
     requires { All IsLow (map seen parts.now) }
-    ensures value { Gives (λ found. found) result (import_at (map seen parts.now) dll.now thunk slot) }
+    ensures value { (dll : List ℕ) → Reads (option_map (λ name. record { dll = dll; name = name.items; slot = slot })) result (import_at (map seen parts.now) dll thunk slot) }
     ensures thunk_low { IfOk result (λ found. IfSome found (λ _. thunk + 4 ≤ 0x400000)) }
     ensures slot_low { IfOk result (λ found. IfSome found (λ _. slot + 4 ≤ 0x400000)) }
 {
@@ -141,34 +137,55 @@ fn import_at(
     if word == 0 {
         return Ok(None);
     }
-    named_import(alloc, parts, dll, thunk, slot, word)
+    named_import(parts, thunk, slot, word)
 }
 
-/// Puts the imports of the thunks from an RVA on behind the others.
+impl Import {
+    fn copy(alloc: Global, dll: &[u8], name: &[u8], slot: u32) -> Result<Self, OutOfMemory>
+        ensures { IfOk result (λ import. import ≡ record { dll = dll.now; name = name.now; slot = slot }) }
+    {
+        let dll = Bytes::copy(alloc, dll)?;
+        let name = Bytes::copy(alloc, name)?;
+        Ok(Import { dll, name, slot })
+    }
+}
+
+/// Puts an import behind the others.
+fn put(alloc: Global, imports: &mut Gathered<Import>, dll: &[u8], name: &[u8], slot: u32)
+    ensures { HasGained imports.old imports.new (record { dll = dll.now; name = name.now; slot = slot } ∷ []) }
+{
+    match Import::copy(alloc, dll, name, slot) {
+        Ok(import) => imports.push(import),
+        Err(OutOfMemory) => imports.lose(),
+    }
+}
+
+/// Puts the imports of the thunks from an RVA on behind the others, where there is room for
+/// `room` of them, and says how much room is left.
 fn add_imports(
     alloc: Global,
     parts: &[Part<'_>],
-    dll: &Bytes,
-    thunks: u32,
-    slots: u32,
-    imports: &mut Vec<Import>,
-) -> Result<(), PeRefusal>
-    requires low { All IsLow (map seen parts.now) }
-    requires count { length imports.old.items ≤ 4096 }
-    ensures value { Gives (λ _. imports.new.items) result (with_front imports.old.items (imports_from (map seen parts.now) dll.now thunks slots (4096 - length imports.old.items))) }
-    ensures count { OnOk result (length imports.new.items ≤ 4096) }
+    dll: &[u8],
+    descriptor: &Descriptor,
+    room: u32,
+    imports: &mut Gathered<Import>,
+) -> Result<u32, PeRefusal>
+    requires { All IsLow (map seen parts.now) }
+    ensures { Gathers (λ functions. room - length functions) imports.old imports.new result (imports_from (map seen parts.now) dll.now descriptor.now.thunks descriptor.now.slots room) }
 {
-    let mut thunk = thunks;
-    let mut slot = slots;
-    while let Some(import) = import_at(alloc, parts, dll, thunk, slot)? {
-        if imports.len() == MOST_IMPORTS {
+    let mut thunk = descriptor.thunks;
+    let mut slot = descriptor.slots;
+    let mut left = room;
+    while let Some(name) = import_at(parts, thunk, slot)? {
+        if left == 0 {
             return Err(PeRefusal::TooLarge);
         }
-        imports.push(import)?;
+        put(alloc, imports, dll, &name, slot);
+        left -= 1;
         thunk += 4;
         slot += 4;
     }
-    Ok(())
+    Ok(left)
 }
 
 /// The descriptor at an RVA.
@@ -191,43 +208,41 @@ fn descriptor_at(parts: &[Part<'_>], rva: u32) -> Result<Descriptor, PeRefusal>
     })
 }
 
-/// Puts the imports of a descriptor behind the others.
+/// Puts the imports of a descriptor behind the others, where there is room for `room` of them,
+/// and says how much room is left.
 #[tactic(auto, unfolding(crate::specs::Imports::imports_of))]
 fn add_imports_of(
     alloc: Global,
     parts: &[Part<'_>],
     descriptor: &Descriptor,
-    imports: &mut Vec<Import>,
-) -> Result<(), PeRefusal>
-    requires low { All IsLow (map seen parts.now) }
-    requires count { length imports.old.items ≤ 4096 }
-    ensures value { Gives (λ _. imports.new.items) result (with_front imports.old.items (imports_of (map seen parts.now) descriptor.now (4096 - length imports.old.items))) }
-    ensures count { OnOk result (length imports.new.items ≤ 4096) }
+    room: u32,
+    imports: &mut Gathered<Import>,
+) -> Result<u32, PeRefusal>
+    requires { All IsLow (map seen parts.now) }
+    ensures { Gathers (λ functions. room - length functions) imports.old imports.new result (imports_of (map seen parts.now) descriptor.now room) }
 {
-    let dll = name(alloc, parts, descriptor.name)?;
-    add_imports(
-        alloc,
-        parts,
-        &dll,
-        descriptor.thunks,
-        descriptor.slots,
-        imports,
-    )
+    let dll = name(parts, descriptor.name)?;
+    add_imports(alloc, parts, &dll, descriptor, room, imports)
 }
 
 /// The imports of the descriptors from an RVA on.
-fn imports_behind(alloc: Global, parts: &[Part<'_>], table: u32) -> Result<Vec<Import>, PeRefusal>
+fn imports_behind(
+    alloc: Global,
+    parts: &[Part<'_>],
+    table: u32,
+) -> Result<Gathered<Import>, PeRefusal>
     requires { All IsLow (map seen parts.now) }
-    ensures { Gives (λ v. v.items) result (descriptors_from (map seen parts.now) table most_descriptors 4096) }
+    ensures { IsReadInto result (descriptors_from (map seen parts.now) table most_descriptors 4096) }
 {
-    let mut imports = Vec::new(alloc);
+    let mut imports = Gathered::new(alloc);
+    let mut room = MOST_IMPORTS;
     let mut rva = table;
     for _ in 0..MOST_DESCRIPTORS {
         let descriptor = descriptor_at(parts, rva)?;
         if descriptor.name == 0 {
             return Ok(imports);
         }
-        add_imports_of(alloc, parts, &descriptor, &mut imports)?;
+        room = add_imports_of(alloc, parts, &descriptor, room, &mut imports)?;
         rva += DESCRIPTOR_SIZE;
     }
     Err(PeRefusal::BadImport(rva))
@@ -235,12 +250,12 @@ fn imports_behind(alloc: Global, parts: &[Part<'_>], table: u32) -> Result<Vec<I
 
 /// The imports of an image whose Import Table lies at an RVA, where that is not 0.
 #[tactic(auto, unfolding(crate::specs::Imports::imports_in))]
-pub fn imports(alloc: Global, parts: &[Part<'_>], table: u32) -> Result<Vec<Import>, PeRefusal>
+pub fn imports(alloc: Global, parts: &[Part<'_>], table: u32) -> Result<Gathered<Import>, PeRefusal>
     requires { All IsLow (map seen parts.now) }
-    ensures { Gives (λ v. v.items) result (imports_in (map seen parts.now) table) }
+    ensures { IsReadInto result (imports_in (map seen parts.now) table) }
 {
     if table == 0 {
-        return Ok(Vec::new(alloc));
+        return Ok(Gathered::new(alloc));
     }
     imports_behind(alloc, parts, table)
 }

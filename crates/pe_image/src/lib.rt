@@ -2,6 +2,7 @@
 //! (Microsoft PE/COFF specification).
 #![tactic(auto)]
 
+mod gathered;
 mod headers;
 mod image;
 mod imports;
@@ -25,6 +26,3 @@ pub use meaning::{
     overlaps_share_an_address, relocations_are_of_blocks,
 };
 pub use refusal::PeRefusal;
-
-#[cfg(test)]
-mod tests;

@@ -2,8 +2,10 @@
 
 ghost use Rattle.std.specs.Prelude.{◌≡◌, ◌≢◌, ◌≤◌, ◌<◌, ◌+◌, ◌%◌, ◌^◌, ℕ, List, length, slice_index, slice_index_or, All, None};
 ghost use Rattle.nd_mem.specs.Cell.{rights_in};
-ghost use Rattle.nd_mem.specs.Space.{Cells};
 ghost use Rattle.pe_image.specs.Image.{ImageParts, ImportParts, IsLaidOut, IsOutside, AreWordsApart, word_in, delta, image_cell, image_cells, map_refusal};
+ghost use Rattle.pe_image.specs.Limits.{LiesInItsSize};
+
+use nd_mem::region_laws;
 
 /// Relocations and slots map no byte, unmap none and change no rights.
 pub fn mapping_keeps_rights()
@@ -35,13 +37,15 @@ pub fn slot_holds_its_address()
 /// An image can be mapped wherever its SizeOfImage bytes are free and end at 0xF0000000 or before,
 /// and it has nothing outside them. SizeOfImage is at most 4 MiB.
 pub fn image_lies_in_its_size()
-    ensures taken { (cells : Cells) (base : ℕ) (image : ImageParts) → IsLaidOut image → base + image.size ≤ 0xF0000000 → ((a : ℕ) → base ≤ a → a < base + image.size → cells a ≡ None) → map_refusal cells base image ≡ None }
-    ensures inside { (image : ImageParts) (base : ℕ) (slots : List ℕ) (a : ℕ) → IsLaidOut image → (base ≤ a → base + image.size ≤ a) → image_cells image base slots a ≡ None }
-    ensures size { (image : ImageParts) → IsLaidOut image → image.size ≤ 0x400000 }
-{}
+    ensures { LiesInItsSize }
+{
+    region_laws();
+}
 
 /// So an image fits into empty memory at the driver's usual base, below 0x80500000.
 pub fn image_fits_into_empty_memory()
     ensures taken { (image : ImageParts) → IsLaidOut image → map_refusal (λ a. None) 0x80100000 image ≡ None }
     ensures inside { (image : ImageParts) (slots : List ℕ) (a : ℕ) → IsLaidOut image → (0x80100000 ≤ a → 0x80500000 ≤ a) → image_cells image 0x80100000 slots a ≡ None }
-{}
+{
+    region_laws();
+}

@@ -1,13 +1,13 @@
 //! The base relocations of an image (PE/COFF specification, "The .reloc Section").
 
-ghost use Rattle.std.specs.Prelude.{◌≡◌, ◌≤◌, ◌<◌, ◌+◌, ◌*◌, ◌++◌, map, All, OnOk, IfOk, IfErr, IfSome};
+ghost use Rattle.std.specs.Prelude.{◌≡◌, ◌≤◌, ◌<◌, ◌+◌, ◌*◌, map, All, IfOk, IfSome};
 ghost use Rattle.std.specs.Option.{option_map};
-ghost use Rattle.pe_image.specs.declared.refusal.PeRefusal.TheVariants.{OutOfMemory};
-ghost use Rattle.pe_image.specs.Outcome.{Gives, with_front};
+ghost use Rattle.pe_image.specs.Gathering.{HasGained, Gathers, IsReadInto, Reads};
 ghost use Rattle.pe_image.specs.Sections.{seen, IsLow};
 ghost use Rattle.pe_image.specs.Lookup.{word_of};
 ghost use Rattle.pe_image.specs.Relocations.{relocated_word, listed, entries_from, is_over, is_block, block_at, blocks_from, relocation_section, relocations_in};
 
+use crate::gathered::Gathered;
 use crate::headers::{BASE_RELOCATION_TABLE, Directory};
 use crate::lookup::{has_word, section_with};
 use crate::refusal::PeRefusal;
@@ -44,14 +44,12 @@ fn relocated_word(
 }
 
 /// Puts a word behind the others, where there is one.
-fn keep(words: &mut Vec<u32>, word: Option<u32>) -> Result<(), PeRefusal>
-    ensures ok { OnOk result (words.new.items ≡ words.old.items ++ listed word) }
-    ensures err { IfErr result (λ e. e ≡ OutOfMemory) }
+fn keep(words: &mut Gathered<u32>, word: Option<u32>)
+    ensures { HasGained words.old words.new (listed word) }
 {
     if let Some(word) = word {
-        words.push(word)?;
+        words.push(word);
     }
-    Ok(())
 }
 
 /// Puts the words behind the others that `count` entries from `rva` on relocate.
@@ -61,17 +59,17 @@ fn add_entries(
     page: u32,
     rva: u32,
     count: u32,
-    words: &mut Vec<u32>,
+    words: &mut Gathered<u32>,
 ) -> Result<(), PeRefusal>
     requires low { All IsLow (map seen parts.now) }
     requires from { table.now.section.rva ≤ rva }
     requires to { rva + 2 * count ≤ 0x400000 }
-    ensures { Gives (λ _. words.new.items) result (with_front words.old.items (entries_from (map seen parts.now) (seen table.now) page rva count)) }
+    ensures { Gathers (λ _. tt) words.old words.new result (entries_from (map seen parts.now) (seen table.now) page rva count) }
 {
     let mut at = rva;
     for _ in 0..count {
         let word = relocated_word(parts, page, at, table.half(at))?;
-        keep(words, word)?;
+        keep(words, word);
         at += 2;
     }
     Ok(())
@@ -101,14 +99,13 @@ fn add_block(
     table: &Part<'_>,
     end: u32,
     rva: u32,
-    words: &mut Vec<u32>,
+    words: &mut Gathered<u32>,
 ) -> Result<u32, PeRefusal>
     requires parts { All IsLow (map seen parts.now) }
     requires from { table.now.section.rva ≤ rva }
     requires to { rva + 8 ≤ end }
     requires low { end ≤ 0x400000 }
-    ensures words { Gives (λ _. words.new.items) result (with_front words.old.items (block_at (map seen parts.now) (seen table.now) end rva)) }
-    ensures next { IfOk result (λ next. next ≡ rva + word_of (seen table.now) (rva + 4)) }
+    ensures words { Gathers (λ _. rva + word_of (seen table.now) (rva + 4)) words.old words.new result (block_at (map seen parts.now) (seen table.now) end rva) }
     ensures later { IfOk result (λ next. rva < next) }
     ensures within { IfOk result (λ next. next ≤ end) }
 {
@@ -129,14 +126,14 @@ fn relocated_words(
     table: &Part<'_>,
     rva: u32,
     size: u32,
-) -> Result<Vec<u32>, PeRefusal>
+) -> Result<Gathered<u32>, PeRefusal>
     requires parts { All IsLow (map seen parts.now) }
     requires from { table.now.section.rva ≤ rva }
     requires low { rva + size ≤ 0x400000 }
-    ensures { Gives (λ v. v.items) result (blocks_from (map seen parts.now) (seen table.now) (rva + size) rva size) }
+    ensures { IsReadInto result (blocks_from (map seen parts.now) (seen table.now) (rva + size) rva size) }
 {
     let end = rva + size;
-    let mut words = Vec::new(alloc);
+    let mut words = Gathered::new(alloc);
     let mut at = rva;
     while !is_over(table, end, at) {
         at = add_block(parts, table, end, at, &mut words)?;
@@ -151,7 +148,7 @@ pub fn relocation_section<'a>(
     directory: &Directory,
 ) -> Result<Option<Part<'a>>, PeRefusal>
     requires { All IsLow (map seen parts.now) }
-    ensures value { Gives (λ table. option_map seen table) result (relocation_section (map seen parts.now) directory.now) }
+    ensures value { Reads (λ table. option_map seen table) result (relocation_section (map seen parts.now) directory.now) }
     ensures from { IfOk result (λ table. IfSome table (λ part. part.section.rva ≤ directory.now.rva)) }
     ensures low { IfOk result (λ table. IfSome table (λ _. directory.now.rva + directory.now.size ≤ 0x400000)) }
 {
@@ -174,14 +171,14 @@ pub fn relocations(
     parts: &[Part<'_>],
     directory: &Directory,
     table: &Option<Part<'_>>,
-) -> Result<Vec<u32>, PeRefusal>
+) -> Result<Gathered<u32>, PeRefusal>
     requires parts { All IsLow (map seen parts.now) }
     requires from { IfSome table.now (λ part. part.section.rva ≤ directory.now.rva) }
     requires low { IfSome table.now (λ _. directory.now.rva + directory.now.size ≤ 0x400000) }
-    ensures { Gives (λ v. v.items) result (relocations_in (map seen parts.now) directory.now (option_map seen table.now)) }
+    ensures { IsReadInto result (relocations_in (map seen parts.now) directory.now (option_map seen table.now)) }
 {
     match table {
-        None => Ok(Vec::new(alloc)),
+        None => Ok(Gathered::new(alloc)),
         Some(part) => relocated_words(alloc, parts, part, directory.rva, directory.size),
     }
 }

@@ -1,14 +1,24 @@
 //! The sections of an image (PE/COFF specification, "Section Table").
 
-ghost use Rattle.std.specs.Prelude.{[], ◌≡◌, ◌≤◌, ◌<◌, ◌+◌, length, map, All, IfOk, IfErr};
+ghost use Rattle.std.specs.Prelude.{[], ◌≡◌, ◌≤◌, ◌<◌, ◌+◌, length, map, All, IfOk};
 ghost use Rattle.std.specs.List.{list_any};
-ghost use Rattle.pe_image.specs.declared.refusal.PeRefusal.TheVariants.{OutOfMemory};
-ghost use Rattle.pe_image.specs.Outcome.{Gives};
+ghost use Rattle.pe_image.specs.Gathering.{Reads};
 ghost use Rattle.pe_image.specs.Sections.{end_of, section_table, is_inside, meets, overlaps, section_judged, sections_judged, section_part, sections_in, seen, HasRawPart, IsLow};
 
 use crate::headers::{Headers, OptionalHeader, Section, SectionHeader};
 use crate::refusal::PeRefusal;
-use std::alloc::Global;
+use arrayvec::ArrayVec;
+use nd_mem::Rights;
+use std::alloc::{AllocError, Global};
+
+/// The sections of an image that is read, at most.
+const MOST_SECTIONS: usize = 96;
+
+/// The headers of a section table.
+type Table = ArrayVec<SectionHeader, MOST_SECTIONS>;
+
+/// The sections of an image, in the order of the section table.
+pub type Parts<'a> = ArrayVec<Part<'a>, MOST_SECTIONS>;
 
 /// A section with its raw part: those of its bytes that are in the file. The others are zeros.
 #[derive(Clone, Copy)]
@@ -17,24 +27,40 @@ pub struct Part<'a> {
     pub raw: &'a [u8],
 }
 
+impl Default for Part<'_> {
+    /// An empty section.
+    fn default() -> Self {
+        Part {
+            section: Section {
+                name: [0; 8],
+                rva: 0,
+                span: 0,
+                raw: 0,
+                rights: Rights {
+                    read: false,
+                    write: false,
+                    execute: false,
+                },
+            },
+            raw: &[],
+        }
+    }
+}
+
 /// The headers of the section table, of which the first lies at the offset `table`.
-fn section_table(
-    alloc: Global,
-    bytes: &[u8],
-    table: u32,
-    count: u16,
-) -> Result<Vec<SectionHeader>, PeRefusal>
-    requires { length bytes.now ≤ 0x400000 }
-    ensures { Gives (λ v. v.items) result (section_table bytes.now table count) }
+fn section_table(bytes: &[u8], table: u32, count: u16) -> Result<Table, PeRefusal>
+    requires size { length bytes.now ≤ 0x400000 }
+    requires count { count ≤ 96 }
+    ensures { Reads (λ v. v.items) result (section_table bytes.now table count) }
 {
-    let mut headers = Vec::new(alloc);
+    let mut headers = Table::new();
     let mut at = table;
     for _ in 0..count {
         let offset = at as usize;
         if offset + SectionHeader::SIZE > bytes.len() {
             return Err(PeRefusal::Short(at));
         }
-        headers.push(SectionHeader::read(bytes, offset))?;
+        headers.push(SectionHeader::read(bytes, offset));
         at += SectionHeader::SIZE as u32;
     }
     Ok(headers)
@@ -110,52 +136,39 @@ fn judge_sections(
     Ok(())
 }
 
-fn parts<'a>(
-    alloc: Global,
-    bytes: &'a [u8],
-    headers: &[SectionHeader],
-) -> Result<Vec<Part<'a>>, PeRefusal>
-    requires { All (HasRawPart bytes.now) headers.now }
-    ensures ok { IfOk result (λ v. map seen v.items ≡ map (section_part bytes.now) headers.now) }
-    ensures err { IfErr result (λ e. e ≡ OutOfMemory) }
+/// The sections with these headers.
+fn parts<'a>(bytes: &'a [u8], headers: &[SectionHeader]) -> Parts<'a>
+    requires raw { All (HasRawPart bytes.now) headers.now }
+    requires count { length headers.now ≤ 96 }
+    ensures { map seen result.items ≡ map (section_part bytes.now) headers.now }
 {
-    let mut parts = Vec::new(alloc);
+    let mut parts = Parts::new();
     for header in headers {
         parts.push(Part {
             section: header.section(),
             raw: header.raw_part(bytes),
-        })?;
+        });
     }
-    Ok(parts)
+    parts
 }
 
 /// The sections of a file with these headers.
 #[tactic(auto, unfolding(crate::specs::Sections::sections_in))]
-pub fn sections<'a>(
-    alloc: Global,
-    bytes: &'a [u8],
-    headers: &Headers,
-) -> Result<Vec<Part<'a>>, PeRefusal>
+pub fn sections<'a>(bytes: &'a [u8], headers: &Headers) -> Result<Parts<'a>, PeRefusal>
     requires size { length bytes.now ≤ 0x400000 }
     requires count { headers.now.file.section_count ≤ 96 }
     requires image { headers.now.image.image_size ≤ 0x400000 }
-    ensures value { Gives (λ v. map seen v.items) result (sections_in bytes.now headers.now) }
+    ensures value { Reads (λ v. map seen v.items) result (sections_in bytes.now headers.now) }
     ensures low { IfOk result (λ v. All IsLow (map seen v.items)) }
 {
-    let table = section_table(
-        alloc,
-        bytes,
-        headers.section_table,
-        headers.file.section_count,
-    )?;
+    let table = section_table(bytes, headers.section_table, headers.file.section_count)?;
     judge_sections(&headers.image, bytes.len(), &table)?;
-    parts(alloc, bytes, &table)
+    Ok(parts(bytes, &table))
 }
 
 /// The sections without their raw parts.
-pub fn section_list(alloc: Global, parts: &[Part<'_>]) -> Result<Vec<Section>, PeRefusal>
-    ensures ok { IfOk result (λ v. v.items ≡ map (λ part. part.section) parts.now) }
-    ensures err { IfErr result (λ e. e ≡ OutOfMemory) }
+pub fn section_list(alloc: Global, parts: &[Part<'_>]) -> Result<Vec<Section>, AllocError>
+    ensures { IfOk result (λ v. v.items ≡ map (λ part. part.section) parts.now) }
 {
     let mut sections = Vec::new(alloc);
     for part in parts {
@@ -165,9 +178,8 @@ pub fn section_list(alloc: Global, parts: &[Part<'_>]) -> Result<Vec<Section>, P
 }
 
 /// The raw parts.
-pub fn raw_parts(alloc: Global, parts: &[Part<'_>]) -> Result<Vec<Vec<u8>>, PeRefusal>
-    ensures ok { IfOk result (λ v. map (λ b. b.items) v.items ≡ map (λ part. part.raw.now) parts.now) }
-    ensures err { IfErr result (λ e. e ≡ OutOfMemory) }
+pub fn raw_parts(alloc: Global, parts: &[Part<'_>]) -> Result<Vec<Vec<u8>>, AllocError>
+    ensures { IfOk result (λ v. map (λ b. b.items) v.items ≡ map (λ part. part.raw.now) parts.now) }
 {
     let mut contents = Vec::new(alloc);
     for part in parts {

@@ -1,8 +1,7 @@
 -- The lines that show a driver's image, and the line of each refusal of one. (The project's own texts: docs/PRINTED.md.)
 use Rattle.std.specs.Prelude.{ℕ, Bool, ◌&&◌, ◌==◌, nat_le, if◌then◌else◌, List, [], ◌∷◌, ◌++◌, map, codes}
 use Rattle.std.specs.List.{flat_map}
-use Rattle.std.specs.Fmt.{decimal}
-use Rattle.nd_base.specs.Text.{hex_word, line}
+use Rattle.nd_base.specs.Text.{hex_word, line, numbered}
 use Rattle.nd_mem.specs.declared.Rights.{Rights}
 use Rattle.pe_image.specs.Image.{ImageParts, ImportParts, sections_of}
 use Rattle.pe_image.specs.declared.headers.Section.{Section}
@@ -58,25 +57,22 @@ relocation_line rva = line (codes "reloc" ∷ hex_word rva ∷ [])
 unfoldable pub image_lines : ImageParts → List ℕ
 image_lines image = head_line image ++ flat_map section_line (sections_of image) ++ flat_map import_line image.imports ++ flat_map relocation_line image.relocations
 
-abbrev pub numbered : List ℕ → ℕ → List ℕ
-numbered name n = line (codes "image" ∷ name ∷ decimal n ∷ [])
-
 -- the line of a refusal
 abbrev pub image_line : PeRefusal → List ℕ
 image_line OutOfMemory = codes "memory\n"
 image_line TooLarge = codes "image too-large\n"
-image_line (Short at) = numbered (codes "short") at
+image_line (Short at) = numbered (codes "image") (codes "short") at
 image_line NotPe = codes "image not-pe\n"
 image_line NotI386 = codes "image not-i386\n"
 image_line NotPe32 = codes "image not-pe32\n"
-image_line (BadSection n) = numbered (codes "bad-section") n
-image_line (Overlap n) = numbered (codes "overlap") n
+image_line (BadSection n) = numbered (codes "image") (codes "bad-section") n
+image_line (Overlap n) = numbered (codes "image") (codes "overlap") n
 image_line BadEntry = codes "image bad-entry\n"
-image_line (BadDirectory n) = numbered (codes "bad-directory") n
-image_line (BadReloc at) = numbered (codes "bad-reloc") at
+image_line (BadDirectory n) = numbered (codes "image") (codes "bad-directory") n
+image_line (BadReloc at) = numbered (codes "image") (codes "bad-reloc") at
 image_line RelocsStripped = codes "image relocs-stripped\n"
-image_line (BadImport at) = numbered (codes "bad-import") at
-image_line (Ordinal at) = numbered (codes "ordinal") at
+image_line (BadImport at) = numbered (codes "image") (codes "bad-import") at
+image_line (Ordinal at) = numbered (codes "image") (codes "ordinal") at
 
 -- the line of an import that is not served
 abbrev pub unknown_import_line : List ℕ → List ℕ

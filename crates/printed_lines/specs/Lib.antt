@@ -1,2 +1,3 @@
 pub mod ImageLines
 pub mod ParameterLines
+pub mod RefusalLine

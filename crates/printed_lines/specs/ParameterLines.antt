@@ -1,8 +1,7 @@
 -- The lines that show the parameters of a hardware id, and the line of each refusal of an INF file. (The project's own texts: docs/PRINTED.md.)
-use Rattle.std.specs.Prelude.{ℕ, ◌-◌, ◌&&◌, nat_le, if◌then◌else◌, List, [], ◌∷◌, ◌++◌, false, length, replicate, codes}
+use Rattle.std.specs.Prelude.{ℕ, ◌&&◌, nat_le, if◌then◌else◌, List, [], ◌∷◌, ◌++◌, codes}
 use Rattle.std.specs.List.{flat_map}
-use Rattle.std.specs.Fmt.{decimal, digits}
-use Rattle.nd_base.specs.Text.{hex_word, line}
+use Rattle.nd_base.specs.Text.{hex_word, hex_unit, line, numbered}
 use Rattle.inf_file.specs.declared.param.Param.{Param}
 use Rattle.inf_file.specs.declared.param.ParamValue.{ParamValue}
 use Rattle.inf_file.specs.declared.param.ParamValue.TheVariants.{Text, Number}
@@ -10,10 +9,6 @@ use Rattle.inf_file.specs.declared.refusal.InfRefusal.{InfRefusal}
 use Rattle.inf_file.specs.declared.refusal.InfRefusal.TheVariants as inf
 use Rattle.inf_file.specs.declared.param.ParamRefusal.{ParamRefusal}
 use Rattle.inf_file.specs.declared.param.ParamRefusal.TheVariants as param
-
--- four hexadecimal digits, in lower case
-abbrev pub hex_unit : ℕ → List ℕ
-hex_unit n = replicate (4 - length (digits 16 false n)) 48 ++ digits 16 false n
 
 -- a unit that is a space or a visible ASCII character stands for itself; another is `\u` and its digits
 abbrev pub unit_text : ℕ → List ℕ
@@ -34,15 +29,12 @@ parameter_line parameter = line (codes "param" ∷ units_text parameter.name ∷
 unfoldable pub parameter_lines : List Param → List ℕ
 parameter_lines parameters = flat_map parameter_line parameters
 
-abbrev pub numbered : List ℕ → ℕ → List ℕ
-numbered name n = line (codes "inf" ∷ name ∷ decimal n ∷ [])
-
 -- the line of an INF file's refusal
 abbrev pub inf_line : InfRefusal → List ℕ
 inf_line inf.OutOfMemory = codes "memory\n"
 inf_line inf.TooLong = codes "inf too-long\n"
-inf_line (inf.BadText at) = numbered (codes "bad-text") at
-inf_line (inf.Line n) = numbered (codes "line") n
+inf_line (inf.BadText at) = numbered (codes "inf") (codes "bad-text") at
+inf_line (inf.Line n) = numbered (codes "inf") (codes "line") n
 
 -- the line of a refusal of an id's parameters
 abbrev pub parameters_line : ParamRefusal → List ℕ
@@ -50,5 +42,5 @@ parameters_line param.OutOfMemory = codes "memory\n"
 parameters_line param.NoVersion = codes "inf no-version\n"
 parameters_line param.NoModel = codes "inf no-model\n"
 parameters_line param.NoInstall = codes "inf no-install\n"
-parameters_line (param.NoString n) = numbered (codes "no-string") n
-parameters_line (param.BadValue n) = numbered (codes "bad-value") n
+parameters_line (param.NoString n) = numbered (codes "inf") (codes "no-string") n
+parameters_line (param.BadValue n) = numbered (codes "inf") (codes "bad-value") n

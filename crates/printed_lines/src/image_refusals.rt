@@ -1,37 +1,33 @@
 //! The line of each refusal of an image.
 
-ghost use Rattle.std.specs.Prelude.{◌≡◌, IfOk, string_bytes};
-ghost use Rattle.printed_lines.specs.ImageLines.{numbered, image_line, unknown_import_line};
+ghost use Rattle.std.specs.Prelude.{◌≡◌, IfOk};
+ghost use Rattle.printed_lines.specs.ImageLines.{image_line, unknown_import_line};
+ghost use Rattle.printed_lines.specs.RefusalLine.{refusal_line};
 
+use crate::refusal_line::refusal_line;
 use nd_base::{Bytes, OutOfMemory};
 use pe_image::PeRefusal;
-use std::alloc::{AllocError, Global};
+use std::alloc::Global;
 
-/// The line of a refusal with a number.
-fn numbered(alloc: Global, name: &str, number: u32) -> Result<String, AllocError>
-    ensures { IfOk result (λ text. string_bytes text ≡ numbered name.now number) }
-{
-    format!(in alloc; "image {name} {number}\n")
-}
-
-fn line_text(alloc: Global, refusal: PeRefusal) -> Result<String, AllocError>
-    ensures { IfOk result (λ text. string_bytes text ≡ image_line refusal) }
+/// The words of a refusal's line, and its offset, RVA or number.
+fn words(refusal: PeRefusal) -> (&'static str, Option<u32>)
+    ensures { refusal_line result.0.now result.1 ≡ image_line refusal }
 {
     match refusal {
-        PeRefusal::OutOfMemory => String::from_str(alloc, "memory\n"),
-        PeRefusal::TooLarge => String::from_str(alloc, "image too-large\n"),
-        PeRefusal::Short(at) => numbered(alloc, "short", at),
-        PeRefusal::NotPe => String::from_str(alloc, "image not-pe\n"),
-        PeRefusal::NotI386 => String::from_str(alloc, "image not-i386\n"),
-        PeRefusal::NotPe32 => String::from_str(alloc, "image not-pe32\n"),
-        PeRefusal::BadSection(n) => numbered(alloc, "bad-section", u32::from(n)),
-        PeRefusal::Overlap(n) => numbered(alloc, "overlap", u32::from(n)),
-        PeRefusal::BadEntry => String::from_str(alloc, "image bad-entry\n"),
-        PeRefusal::BadDirectory(n) => numbered(alloc, "bad-directory", u32::from(n)),
-        PeRefusal::BadReloc(at) => numbered(alloc, "bad-reloc", at),
-        PeRefusal::RelocsStripped => String::from_str(alloc, "image relocs-stripped\n"),
-        PeRefusal::BadImport(at) => numbered(alloc, "bad-import", at),
-        PeRefusal::Ordinal(at) => numbered(alloc, "ordinal", at),
+        PeRefusal::OutOfMemory => ("memory", None),
+        PeRefusal::TooLarge => ("image too-large", None),
+        PeRefusal::Short(at) => ("image short", Some(at)),
+        PeRefusal::NotPe => ("image not-pe", None),
+        PeRefusal::NotI386 => ("image not-i386", None),
+        PeRefusal::NotPe32 => ("image not-pe32", None),
+        PeRefusal::BadSection(n) => ("image bad-section", Some(u32::from(n))),
+        PeRefusal::Overlap(n) => ("image overlap", Some(u32::from(n))),
+        PeRefusal::BadEntry => ("image bad-entry", None),
+        PeRefusal::BadDirectory(n) => ("image bad-directory", Some(u32::from(n))),
+        PeRefusal::BadReloc(at) => ("image bad-reloc", Some(at)),
+        PeRefusal::RelocsStripped => ("image relocs-stripped", None),
+        PeRefusal::BadImport(at) => ("image bad-import", Some(at)),
+        PeRefusal::Ordinal(at) => ("image ordinal", Some(at)),
     }
 }
 
@@ -39,8 +35,8 @@ fn line_text(alloc: Global, refusal: PeRefusal) -> Result<String, AllocError>
 pub fn image_line(alloc: Global, refusal: PeRefusal) -> Result<Bytes, OutOfMemory>
     ensures { IfOk result (λ line. line ≡ image_line refusal) }
 {
-    let text = line_text(alloc, refusal)?;
-    Bytes::copy(alloc, text.as_bytes())
+    let (words, number) = words(refusal);
+    refusal_line(alloc, words, number)
 }
 
 /// The line of an import that is not served.

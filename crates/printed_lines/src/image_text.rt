@@ -6,6 +6,7 @@ ghost use Rattle.nd_base.specs.Text.{hex_word};
 ghost use Rattle.pe_image.specs.Image.{sections_of};
 ghost use Rattle.printed_lines.specs.ImageLines.{right, rights_text, name_byte, up_to_zero, section_name, head_line, section_line, section_numbers, import_line, relocation_line, image_lines};
 
+use nd_base::laws::hex_digits_are_padded;
 use nd_base::{Bytes, OutOfMemory};
 use nd_mem::Rights;
 use pe_image::{Image, Import, Section};
@@ -60,20 +61,20 @@ fn section_name(alloc: Global, name: &[u8; 8]) -> Result<Bytes, OutOfMemory>
     Ok(text)
 }
 
-#[tactic(auto, using(nd_base::proofs::Hex::padded_word))]
 fn head_line(alloc: Global, image: &Image) -> Result<String, AllocError>
     ensures { IfOk result (λ text. string_bytes text ≡ head_line image.now) }
 {
+    hex_digits_are_padded();
     let base = image.base();
     let entry = image.entry();
     let size = image.size();
     format!(in alloc; "image base {base:08x} entry {entry:08x} size {size:08x}\n")
 }
 
-#[tactic(auto, using(nd_base::proofs::Hex::padded_word))]
 fn spaced_word(alloc: Global, word: u32) -> Result<String, AllocError>
     ensures { IfOk result (λ text. string_bytes text ≡ 32 ∷ hex_word word) }
 {
+    hex_digits_are_padded();
     format!(in alloc; " {word:08x}")
 }
 

@@ -1,19 +1,20 @@
 //! The lines that show the parameters of a hardware id.
 
 ghost use Rattle.std.specs.Prelude.{◌≡◌, ◌++◌, OnOk, IfOk, string_bytes, codes};
-ghost use Rattle.nd_base.specs.Text.{hex_word};
+ghost use Rattle.nd_base.specs.Text.{hex_word, hex_unit};
 ghost use Rattle.std.specs.List.{flat_map};
-ghost use Rattle.printed_lines.specs.ParameterLines.{hex_unit, unit_text, units_text, value_text, parameter_line, parameter_lines};
+ghost use Rattle.printed_lines.specs.ParameterLines.{unit_text, units_text, value_text, parameter_line, parameter_lines};
 
 use inf_file::{Param, ParamValue};
+use nd_base::laws::hex_digits_are_padded;
 use nd_base::{Bytes, OutOfMemory};
 use std::alloc::{AllocError, Global};
 
 /// `\u` and the four digits of a unit.
-#[tactic(auto, using(crate::proofs::Unit::padded_unit))]
 fn escaped(alloc: Global, unit: u16) -> Result<String, AllocError>
     ensures { IfOk result (λ text. string_bytes text ≡ codes "\\u" ++ hex_unit unit) }
 {
+    hex_digits_are_padded();
     format!(in alloc; "\\u{unit:04x}")
 }
 
@@ -36,10 +37,10 @@ fn push_units(alloc: Global, text: &mut Bytes, units: &[u16]) -> Result<(), OutO
     Ok(())
 }
 
-#[tactic(auto, using(nd_base::proofs::Hex::padded_word))]
 fn number_text(alloc: Global, number: u32) -> Result<String, AllocError>
     ensures { IfOk result (λ text. string_bytes text ≡ codes "dword " ++ hex_word number) }
 {
+    hex_digits_are_padded();
     format!(in alloc; "dword {number:08x}")
 }
 

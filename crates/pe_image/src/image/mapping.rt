@@ -4,7 +4,8 @@
 ghost use Rattle.std.specs.Prelude.{◌≡◌, ◌≢◌, ◌≤◌, ◌<◌, ◌+◌, ◌++◌, ℕ, List, [], ◌∷◌, length, take, replicate, All, Some, None, IfOk, IfErr, OnOk, OnErr};
 ghost use Rattle.std.specs.List.{AllPairs};
 ghost use Rattle.std.specs.FinMap as map;
-ghost use Rattle.nd_mem.specs.Space.{either_of, region_refusal};
+ghost use Rattle.std.specs.Option.{option_or};
+ghost use Rattle.nd_mem.specs.Space.{region_refusal};
 ghost use Rattle.pe_image.specs.Image.{range_cell, delta, image_cells, sections_refusal, map_refusal, sections_of, HasGainedPart};
 ghost use Rattle.pe_image.specs.Contents.{written, word_written, word_moved, with_sections, with_relocations, with_addresses, contents_of, filled_cell, AreDisjoint, EndsWithin, WordEndsWithin, SlotEndsWithin};
 
@@ -12,7 +13,7 @@ use crate::headers::{Section, u32_at};
 use crate::image::Image;
 use crate::imports::Import;
 use nd_base::{Addr, OutOfMemory};
-use nd_mem::{Memory, RegionRefusal, Rights};
+use nd_mem::{Memory, RegionRefusal, Rights, region_laws, write_laws};
 use std::alloc::{AllocError, Global};
 use std::marker::Model;
 
@@ -83,7 +84,7 @@ impl Image {
         mem: &mut Memory,
     ) -> Result<(), RegionRefusal>
         requires { length slots.now ≡ length self.now.imports }
-        ensures ok { OnOk result ((a : ℕ) → map.get mem.new a ≡ either_of (image_cells self.now base.0 slots.now a) (map.get mem.old a)) }
+        ensures ok { OnOk result ((a : ℕ) → map.get mem.new a ≡ option_or (image_cells self.now base.0 slots.now a) (map.get mem.old a)) }
         ensures refusal { IfErr result (λ e. e ≢ RegionRefusal.OutOfMemory → (map_refusal (map.get mem.old) base.0 self.now ≡ Some e) × (mem.new ≡ mem.old)) }
         ensures taken { OnOk result (map_refusal (map.get mem.old) base.0 self.now ≡ None) }
         ensures memory { IfErr result (λ e. e ≡ RegionRefusal.OutOfMemory → map_refusal (map.get mem.old) base.0 self.now ≡ None) }
@@ -239,9 +240,9 @@ fn map_sections(
     requires free { sections_refusal (map.get mem.old) base.0 sections.now ≡ None }
     requires within { All (EndsWithin (length contents.now)) sections.now }
     requires apart { AllPairs AreDisjoint sections.now }
-    ensures ok { OnOk result ((a : ℕ) → map.get mem.new a ≡ either_of (map.get mem.old a) (filled_cell base.0 contents.now sections.now a)) }
+    ensures ok { OnOk result ((a : ℕ) → map.get mem.new a ≡ option_or (map.get mem.old a) (filled_cell base.0 contents.now sections.now a)) }
     ensures err { IfErr result (λ e. e ≡ RegionRefusal.OutOfMemory) }
-    ensures kept { OnErr result ((n : ℕ) × (n < length sections.now) × ((a : ℕ) → map.get mem.new a ≡ either_of (map.get mem.old a) (filled_cell base.0 contents.now (take n sections.now) a))) }
+    ensures kept { OnErr result ((n : ℕ) × (n < length sections.now) × ((a : ℕ) → map.get mem.new a ≡ option_or (map.get mem.old a) (filled_cell base.0 contents.now (take n sections.now) a))) }
 {
     for section in sections {
         let at = Addr(base.0 + section.rva);
@@ -262,15 +263,14 @@ fn map_range(
     rights: Rights,
 ) -> Result<(), RegionRefusal>
     requires { length bytes.now ≤ len }
-    ensures ok { OnOk result ((a : ℕ) → map.get mem.new a ≡ either_of (map.get mem.old a) (range_cell at.0 len bytes.now rights a)) }
+    ensures ok { OnOk result ((a : ℕ) → map.get mem.new a ≡ option_or (map.get mem.old a) (range_cell at.0 len bytes.now rights a)) }
     ensures free { OnOk result (region_refusal (map.get mem.old) at.0 len ≡ None) }
     ensures refusal { IfErr result (λ e. e ≢ RegionRefusal.OutOfMemory → region_refusal (map.get mem.old) at.0 len ≡ Some e) }
     ensures err { OnErr result (mem.new ≡ mem.old) }
 {
+    region_laws();
+    write_laws();
     mem.add_region(alloc, at, len, rights)?;
     mem.place(at, bytes).unwrap();
     Ok(())
 }
-
-#[cfg(test)]
-mod tests;

@@ -1,16 +1,11 @@
 use Rattle.std.proofs.Common.{ap, ◌∙◌, arith}
-use Rattle.nd_mem.specs.Space.{either_of}
-use Rattle.driver_entry.specs.declared.guest.TheConstants.{GUEST_REGIONS}
-use Rattle.driver_entry.specs.Guest.{region_cell}
-use Rattle.driver_entry.proofs.GuestMap.{guest_regions_rise}
+use Rattle.std.specs.Option.{option_or}
+use Rattle.guest_map.specs.Blank.{blank_cells}
 use Rattle.driver_entry.proofs.StartSpace.{image_ends, start_is}
 use Rattle.driver_entry.proofs.guest.start_memory.Goals as goal
 
-pub add_regions-requires-clause-free : goal.add_regions-requires-clause-free
-add_regions-requires-clause-free c = λ a high. c.in_ok-map_image.ensures a ∙ image_ends c.args.image.now c.requires.laid_out a (omega arith)
-
-pub add_regions-requires-clause-rise : goal.add_regions-requires-clause-rise
-add_regions-requires-clause-rise c = guest_regions_rise
+pub map_regions-requires : goal.map_regions-requires
+map_regions-requires c = λ a high. c.in_ok-map_image.ensures a ∙ image_ends c.image_lies_in_its_size.ensures c.args.image.now c.bounds.ensures.laid_out a (omega arith)
 
 pub returns : goal.returns
-returns c = start_is c.args.image.now c.requires.laid_out _ (λ a. c.in_ok-add_regions.ensures a ∙ ap (λ x. either_of x (region_cell GUEST_REGIONS a)) (c.in_ok-map_image.ensures a))
+returns c = start_is c.image_lies_in_its_size.ensures c.look_up_laws.ensures c.regions_are_blank.ensures c.args.image.now c.bounds.ensures.laid_out _ (λ a. c.in_ok-map_regions.ensures.ok a ∙ ap (λ x. option_or x (blank_cells a)) (c.in_ok-map_image.ensures a))

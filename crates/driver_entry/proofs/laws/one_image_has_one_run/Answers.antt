@@ -6,4 +6,4 @@ pub returns-clause-some : goal.returns-clause-some
 returns-clause-some c = has_run
 
 pub returns-clause-no_other : goal.returns-clause-no_other
-returns-clause-no_other c = λ inputs log log' ending ending' whole whole'. (same_log inputs log log' ending ending' whole whole', same_ending inputs log log' ending ending' whole whole')
+returns-clause-no_other c = λ inputs log log' ending ending' whole whole' _. (same_log inputs log log' ending ending' whole whole', same_ending inputs log log' ending ending' whole whole')

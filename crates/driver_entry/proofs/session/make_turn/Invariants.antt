@@ -1,6 +1,7 @@
 use Rattle.std.proofs.Common.{◌≡◌, ℕ, ◌<◌, ◌≤◌, ◌-◌, true}
 use Rattle.ia32_step.specs.Machine.{outcome}
-use Rattle.driver_entry.specs.Run.{machine, turned, is_moved}
+use Rattle.ia32_step.specs.Machine.{machine}
+use Rattle.driver_entry.specs.Run.{turned, is_moved}
 use Rattle.driver_entry.proofs.session.make_turn.Given as goal
 
 abbrev pub invariant-loop-count : goal.invariant-loop-count

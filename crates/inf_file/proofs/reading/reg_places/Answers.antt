@@ -1,16 +1,10 @@
-use Rattle.std.proofs.Common.{[], List, ap, ◌∙◌, arith}
-use Rattle.std.specs.Prelude.{if◌then◌else◌}
-use Rattle.std.specs.List.{flat_map}
-use Rattle.std.proofs.lemmas.List.{take_all}
+use Rattle.std.proofs.Common.{Bor, arith}
+use Rattle.inf_file.specs.declared.sections.Line.{Line}
 use Rattle.inf_file.specs.Keyed.{string_in}
-use Rattle.inf_file.specs.Sections.{Line}
-use Rattle.inf_file.specs.Parameters.{named_places, is_directive, reg_places}
-use Rattle.inf_file.proofs.ListLemmas.{flat_map-filter}
+use Rattle.inf_file.proofs.ParameterLemmas.{places-more}
 use Rattle.inf_file.proofs.reading.reg_places.Goals as goal
 
-pub returns : goal.returns
-unfolding reg_places
-returns c =
-    let g = λ (line : Line). named_places (string_in c.args.strings.now) c.args.inf.now line.values in
-    c.loop-line.invariant ∙ ap (λ (ls : List Line). flat_map (λ (line : Line). if is_directive line then g line else []) ls) (take_all _ c.args.lines.now (omega arith))
-    ∙ flat_map-filter g is_directive c.args.lines.now
+pub loop-directive-preserved : goal.loop-directive-preserved
+loop-directive-preserved c =
+    places-more (λ (l : Bor Line). l.now) (string_in c.args.strings.now) c.args.inf.now c.args.directives.now c.loop-directive.directive-index c.directive-item.result c.values.result.now c.loop-directive.places.items c.add_places.new.places.items
+    (omega arith) c.directive-item.is c.values.ensures c.in_ok-add_places.ensures c.loop-directive.invariant

@@ -1,9 +1,7 @@
-use Rattle.std.proofs.Common.{◌≡◌, [], take}
-use Rattle.std.specs.Prelude.{if◌then◌else◌}
-use Rattle.std.specs.List.{flat_map}
+use Rattle.std.proofs.Common.{◌≡◌, map, take}
 use Rattle.inf_file.specs.Keyed.{string_in}
-use Rattle.inf_file.specs.Parameters.{named_places, is_directive}
+use Rattle.inf_file.specs.Parameters.{reg_places}
 use Rattle.inf_file.proofs.reading.reg_places.Given as goal
 
-abbrev pub invariant-loop-line : goal.invariant-loop-line
-invariant-loop-line l = l.places.items ≡ flat_map (λ line. if is_directive line then named_places (string_in l.strings) l.inf line.values else []) (take l.line-index l.lines)
+abbrev pub invariant-loop-directive : goal.invariant-loop-directive
+invariant-loop-directive l = l.places.items ≡ reg_places (string_in l.strings) l.inf (map (λ x. x.now) (take l.directive-index l.directives))

@@ -3,7 +3,7 @@ use Rattle.std.specs.Option.{is_some}
 use Rattle.nd_base.specs.Layout as layout
 use Rattle.nd_base.specs.Layout.{seen}
 use Rattle.nd_base.specs.LayoutReading.{shared_with, first_shared, overlap_of}
-use Rattle.nd_base.proofs.LayoutText.{passes, goes_by, none_passed}
+use Rattle.nd_base.proofs.FirstFrom.{passes, goes_by, none_passed}
 use Rattle.nd_base.proofs.LayoutLines.{pair_is, some_is, none_is}
 use Rattle.nd_base.proofs.layout.overlap.Goals as goal
 

@@ -1,6 +1,6 @@
 use Rattle.std.proofs.Common.{◌<◌, sym, ◌∙◌}
 use Rattle.nd_base.specs.LayoutReading.{share, shared_with}
-use Rattle.nd_base.proofs.LayoutText.{passes, goes_by, none_passed}
+use Rattle.nd_base.proofs.FirstFrom.{passes, goes_by, none_passed}
 use Rattle.nd_base.proofs.layout.shared_with.Goals as goal
 
 pub returns-then-share-clause-value : goal.returns-then-share-clause-value

@@ -1,15 +1,5 @@
-use Rattle.std.proofs.Common.{◌≡◌, Ok, refl}
-use Rattle.std.specs.Fmt.{digits}
-use Rattle.nd_base.specs.Layout.{row, rows, usual}
-use Rattle.nd_base.specs.LayoutText.{digits_after, first_from, place_of, line_content}
-use Rattle.nd_base.specs.LayoutFile.{usual_text, words}
-use Rattle.nd_base.specs.LayoutReading.{behind_lines, shared_with, first_shared, reading}
-use Rattle.nd_base.proofs.LayoutFile.{found}
+use Rattle.nd_base.proofs.Usual.{usual_is_layout}
 use Rattle.nd_base.proofs.layout.usual_is_a_layout.Goals as goal
 
-usual_is_read : reading usual_text ≡ Ok usual
-unfolding usual usual_text digits row rows words digits_after first_from place_of line_content behind_lines shared_with first_shared reading
-usual_is_read = refl
-
 pub returns : goal.returns
-returns c = found usual_text usual usual_is_read
+returns c = usual_is_layout

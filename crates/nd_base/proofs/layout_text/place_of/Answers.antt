@@ -3,7 +3,7 @@ use Rattle.std.specs.Str.{bytes_eq}
 use Rattle.nd_base.specs.Layout as layout
 use Rattle.nd_base.specs.Layout.{row, seen}
 use Rattle.nd_base.specs.LayoutText.{place_of}
-use Rattle.nd_base.proofs.LayoutText.{passes, goes_by, none_passed}
+use Rattle.nd_base.proofs.FirstFrom.{passes, goes_by, none_passed}
 use Rattle.nd_base.proofs.layout_text.place_of.Goals as goal
 
 pub returns-then-eq-clause-value : goal.returns-then-eq-clause-value

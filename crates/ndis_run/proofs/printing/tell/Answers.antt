@@ -1,10 +1,15 @@
-use Rattle.std.proofs.Common.{ap, Err}
-use Rattle.ndis_run.proofs.Told.{Rose-later, off_by_memory, off_by_print}
+use Rattle.std.proofs.Common.{ap, Err, refl}
+use Rattle.ndis_run.specs.Prints.{whole, failed}
+use Rattle.ndis_run.proofs.Lines.{broken_by_memory, fronts_of}
 use Rattle.ndis_run.proofs.printing.tell.Goals as goal
 
-pub returns-in-Err-Memory-clause-broke_off : goal.returns-in-Err-Memory-clause-broke_off
-returns-in-Err-Memory-clause-broke_off g c = λ _. off_by_memory _ _ _ _ _ _ _ c.print.ensures.front c.tell_memory.ensures.front c.tell_memory.ensures.status
+pub returns-in-Ok : goal.returns-in-Ok
+returns-in-Ok g c = whole refl c.in-Ok.ensures.ok c.in-Ok.ensures.quiet
 
-pub returns-in-Err-Failed-clause-broke_off : goal.returns-in-Err-Failed-clause-broke_off
-returns-in-Err-Failed-clause-broke_off g c = λ _. off_by_print _ _ _ _ _ _ _ c.print.ensures.front c.tell_unprinted.ensures.front c.tell_unprinted.ensures.status
-    (Rose-later _ _ _ c.print.ensures.later c.tell_unprinted.ensures.later (c.in-Err-Failed.ensures.cause (ap Err c.in-Err-Failed.field-0-is)))
+pub returns-in-Err-Memory : goal.returns-in-Err-Memory
+returns-in-Err-Memory g c = broken_by_memory _ _ _ _ _ _ _ c.print.ensures.front c.tell_memory.ensures.told
+
+pub returns-in-Err-Failed : goal.returns-in-Err-Failed
+returns-in-Err-Failed g c = failed c.tell_unprinted.ensures.status
+    (c.risen_counts_stay_risen.ensures.later _ _ _ c.print.ensures.later c.tell_unprinted.ensures.later (c.in-Err-Failed.ensures.cause (ap Err c.in-Err-Failed.field-0-is)))
+    (fronts_of _ _ _ _ _ c.print.ensures.front c.tell_unprinted.ensures.front)

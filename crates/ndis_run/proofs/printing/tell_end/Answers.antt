@@ -1,9 +1,9 @@
 use Rattle.std.proofs.Common.{◌∙◌}
-use Rattle.ndis_run.proofs.Told.{off_at_once, off_same}
+use Rattle.ndis_run.proofs.Lines.{forgotten, prints_same, prints_with}
 use Rattle.ndis_run.proofs.printing.tell_end.Goals as goal
 
-pub returns-in-Ok-clause-broke_off : goal.returns-in-Ok-clause-broke_off
-returns-in-Ok-clause-broke_off g c = λ off. off_same _ _ _ _ _ _ _ (c.as_bytes.ensures.value ∙ c.in-Ok.ensures) (c.tell.ensures.broke_off off)
+pub returns-in-Ok : goal.returns-in-Ok
+returns-in-Ok g c = prints_with _ _ _ _ _ _ _ c.status_of.ensures (prints_same _ _ _ _ _ _ _ (c.as_bytes.ensures.value ∙ c.in-Ok.ensures) c.tell.ensures)
 
-pub returns-in-Err-clause-broke_off : goal.returns-in-Err-clause-broke_off
-returns-in-Err-clause-broke_off g c = λ _. off_at_once _ _ _ _ _ _ c.tell_memory.ensures.front c.tell_memory.ensures.status
+pub returns-in-Err : goal.returns-in-Err
+returns-in-Err g c = forgotten _ _ _ _ _ _ c.tell_memory.ensures.told

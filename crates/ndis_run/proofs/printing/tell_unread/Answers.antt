@@ -1,5 +1,9 @@
-use Rattle.ndis_run.proofs.Told.{off_at_once}
+use Rattle.std.proofs.Common.{◌∙◌}
+use Rattle.ndis_run.proofs.Lines.{forgotten, prints_same}
 use Rattle.ndis_run.proofs.printing.tell_unread.Goals as goal
 
-pub returns-in-Err-clause-broke_off : goal.returns-in-Err-clause-broke_off
-returns-in-Err-clause-broke_off g c = λ _. off_at_once _ _ _ _ _ _ c.tell_memory.ensures.front c.tell_memory.ensures.status
+pub returns-in-Ok : goal.returns-in-Ok
+returns-in-Ok g c = prints_same _ _ _ _ _ _ _ (c.as_bytes.ensures.value ∙ c.in-Ok.ensures) c.tell.ensures
+
+pub returns-in-Err : goal.returns-in-Err
+returns-in-Err g c = forgotten _ _ _ _ _ _ c.tell_memory.ensures.told

@@ -1,4 +1,4 @@
-use Rattle.ndis_run.specs.Tool.{usual}
+use Rattle.ndis_run.specs.RunZero.{usual}
 use Rattle.ndis_run.proofs.run_zero.log_run.Given as goal
 
 abbrev pub ghost-run_image : goal.ghost-run_image

@@ -1,5 +1,4 @@
 use Rattle.std.proofs.Common.{◌∙◌}
-use Rattle.nd_base.proofs.FileCalls.{OnlyWrites-trans, writable-writes}
 use Rattle.ndis_run.proofs.Pieces.{appended_more, count_within, count_inside}
 use Rattle.ndis_run.proofs.transfer.write_file.Goals as goal
 
@@ -9,8 +8,8 @@ loop-done-preserved g c =
     let count = c.in_ok-done.ensures.count in
     record {
       within = count_inside c.args.bytes.now c.loop-done.done _ _ before.within count;
-      writable = writable-writes c.append.ensures.only c.args.name.now before.writable;
-      told = λ m is. appended_more _ m c.args.name.now c.args.bytes.now c.loop-done.done c.in_ok-done.field-0 _ (count_within c.args.bytes.now c.loop-done.done _ _ count) (c.in_ok-done.ensures.known _ (before.told m is));
+      writable = c.writes_add_up.ensures.writable _ _ c.args.name.now c.append.ensures.only before.writable;
+      told = λ m is. appended_more c.set_files_are_kept.ensures.set c.set_files_are_kept.ensures.last _ m c.args.name.now c.args.bytes.now c.loop-done.done c.in_ok-done.field-0 _ (count_within c.args.bytes.now c.loop-done.done _ _ count) (c.in_ok-done.ensures.known _ (before.told m is));
       quiet = c.in_ok-done.ensures.quiet ∙ before.quiet;
-      only = OnlyWrites-trans before.only c.append.ensures.only;
+      only = c.writes_add_up.ensures.in_a_row _ _ _ before.only c.append.ensures.only;
     }

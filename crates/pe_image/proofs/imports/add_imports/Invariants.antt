@@ -1,14 +1,14 @@
-use Rattle.std.proofs.Common.{◌≡◌, ◌≤◌, ◌-◌, length, map}
-use Rattle.pe_image.specs.Outcome.{with_front}
+use Rattle.std.proofs.Common.{◌≡◌, ◌+◌, length, List, map}
+use Rattle.pe_image.specs.Gathering.{HasGained}
+use Rattle.pe_image.specs.Image.{ImportParts}
+use Rattle.pe_image.proofs.Fronts.{with_front}
 use Rattle.pe_image.specs.Sections.{seen}
 use Rattle.pe_image.specs.Imports.{imports_from}
 use Rattle.pe_image.proofs.imports.add_imports.Given as goal
 
-abbrev pub invariant-loop-import : goal.invariant-loop-import
-invariant-loop-import l = record {
-  so_far : with_front l.imports.items (imports_from (map seen l.parts) l.dll l.thunk l.slot (4096 - length l.imports.items)) ≡ with_front l.fn.imports.items (imports_from (map seen l.parts) l.dll l.thunks l.slots (4096 - length l.fn.imports.items));
-  count : length l.imports.items ≤ 4096;
-}
+abbrev pub invariant-loop-name : goal.invariant-loop-name
+invariant-loop-name l =
+    (here : List ImportParts) × (with_front here (imports_from (map seen l.parts) l.dll l.thunk l.slot l.left) ≡ imports_from (map seen l.parts) l.dll l.descriptor.thunks l.descriptor.slots l.room) × (l.left + length here ≡ l.room) × HasGained l.fn.imports l.imports here
 
-abbrev pub decreases-loop-import : goal.decreases-loop-import
-decreases-loop-import l = 4096 - length l.imports.items
+abbrev pub decreases-loop-name : goal.decreases-loop-name
+decreases-loop-name l = l.left

@@ -1,6 +1,6 @@
-use Rattle.std.proofs.Common.{◌≡◌, ℕ, List, ◌+◌, ◌-◌, suc, false, true, map, sym, ap, ◌∙◌, arith}
+use Rattle.std.proofs.Common.{◌≡◌, ℕ, [], ◌++◌, ◌+◌, ◌-◌, suc, false, true, map, sym, ap, ◌∙◌, arith}
 use Rattle.std.proofs.lemmas.Result.{err_from_is_err_and}
-use Rattle.pe_image.specs.Outcome.{with_front}
+use Rattle.pe_image.proofs.Fronts.{with_front}
 use Rattle.pe_image.specs.Sections.{seen}
 use Rattle.pe_image.specs.Lookup.{word_of}
 use Rattle.pe_image.specs.Relocations.{is_over, block_at, blocks_from}
@@ -10,9 +10,8 @@ use Rattle.pe_image.proofs.relocations.relocated_words.Goals as goal
 
 pub loop-words-init : goal.loop-words-init
 loop-words-init c =
-    let read = blocks_from (map seen c.args.parts.now) (seen c.args.table.now) (c.args.rva + c.args.size) c.args.rva c.args.size in
     record {
-      so_far = (c.args.size, omega arith, ap (λ (front : List ℕ). with_front front read) c.new-words.ensures.items ∙ with_front-nil read);
+      so_far = (c.args.size, omega arith, [], with_front-nil (blocks_from (map seen c.args.parts.now) (seen c.args.table.now) (c.args.rva + c.args.size) c.args.rva c.args.size), c.new-words.ensures);
       from = omega arith;
       to = omega arith;
     }
@@ -29,8 +28,8 @@ returns-in_err-at c =
     let one : old.0 ≡ suc left = omega (arith, old.1, not_over table end at more) in
     let p = err_from_is_err_and c.from_residual.result c.from_residual.ensures.1 in
     rw (p.1, p.2)
-    (λ other. then_stop c.loop-words.words.items (block_at parts table end at) (blocks_from parts table end (at + word_of table (at + 4)) left) (blocks_from parts table end c.args.rva c.args.size) c.in_err-at.field-0.0 (c.in_err-at.ensures.words other)
-    (sym (ap (with_front c.loop-words.words.items) (ap (blocks_from parts table end at) one ∙ blocks-step parts table end at left more)) ∙ old.2))
+    (then_stop old.2 (block_at parts table end at) (blocks_from parts table end (at + word_of table (at + 4)) left) (blocks_from parts table end c.args.rva c.args.size) c.in_err-at.field-0.0 (ap (with_front old.2) c.in_err-at.ensures.words)
+    (sym (ap (with_front old.2) (ap (blocks_from parts table end at) one ∙ blocks-step parts table end at left more)) ∙ old.3))
 
 pub loop-words-preserved : goal.loop-words-preserved
 loop-words-preserved c =
@@ -44,13 +43,16 @@ loop-words-preserved c =
     let one : old.0 ≡ suc left = omega (arith, old.1, not_over table end at more) in
     let later = c.in_ok-at.ensures.later in
     let within = c.in_ok-at.ensures.within in
+    let block = c.in_ok-at.ensures.words in
     record {
       so_far = (
         left,
         omega (arith, old.1, one, later),
-        ap (λ (next : ℕ). with_front c.add_block.new.words.items (blocks_from parts table end next left)) c.in_ok-at.ensures.next
-            ∙ then_on c.loop-words.words.items c.add_block.new.words.items (block_at parts table end at) (blocks_from parts table end (at + word_of table (at + 4)) left) (blocks_from parts table end c.args.rva c.args.size) c.in_ok-at.ensures.words
-            (sym (ap (with_front c.loop-words.words.items) (ap (blocks_from parts table end at) one ∙ blocks-step parts table end at left more)) ∙ old.2),
+        old.2 ++ block.0,
+        ap (λ (next : ℕ). with_front (old.2 ++ block.0) (blocks_from parts table end next left)) block.2
+            ∙ then_on old.2 (old.2 ++ block.0) (block_at parts table end at) (blocks_from parts table end (at + word_of table (at + 4)) left) (blocks_from parts table end c.args.rva c.args.size) (ap (with_front old.2) block.1)
+            (sym (ap (with_front old.2) (ap (blocks_from parts table end at) one ∙ blocks-step parts table end at left more)) ∙ old.3),
+        block.3 old.2 old.4,
       );
       from = omega (arith, c.loop-words.invariant.from, later);
       to = within;
@@ -64,4 +66,4 @@ returns c =
     let at = c.loop-words.at in
     let old = c.loop-words.invariant.so_far in
     let over : is_over table end at ≡ true = sym c.is_over.ensures ∙ c.loop-words-test.false in
-    ends c.loop-words.words.items (blocks_from parts table end at old.0) (blocks_from parts table end c.args.rva c.args.size) (blocks-over parts table end at old.0 over) old.2
+    (old.2, ends old.2 (blocks_from parts table end at old.0) (blocks_from parts table end c.args.rva c.args.size) (blocks-over parts table end at old.0 over) old.3, old.4)

@@ -1,9 +1,8 @@
-use Rattle.std.proofs.Common.{ℕ, ◌+◌, arith, subst, ap, sym, ◌∙◌, List, [], ◌∷◌, ◌++◌}
-use Rattle.driver_entry.specs.declared.entries.Entry.{Entry}
-use Rattle.driver_entry.specs.declared.entries.Entry.TheVariants.{Turn}
-use Rattle.driver_entry.specs.Run.{machine, turned, Reaches}
+use Rattle.std.proofs.Common.{ℕ, arith, ap, ◌∙◌}
+use Rattle.ia32_step.specs.Machine.{machine}
+use Rattle.driver_entry.specs.Run.{turned}
 use Rattle.driver_entry.specs.Session.{machine_of}
-use Rattle.driver_entry.proofs.Turns.{open_state, is_turn, open_same, turn_logged}
+use Rattle.driver_entry.proofs.Turns.{is_turn, open_same, turn_logged_as}
 use Rattle.driver_entry.proofs.session.Session.turn.Goals as goal
 
 pub returns-then-turned-eq0-clause-open : goal.returns-then-turned-eq0-clause-open
@@ -21,10 +20,8 @@ returns-clause-open g c =
     let old = machine_of c.args.self.now in
     let new = machine made.new.regs made.new.memory in
     let turn = is_turn g.inputs.budget c.args.self.now.charged _ made.result.count old new made.result.last (omega arith) made.ensures.count (omega arith) c.requires.unspent made.ensures.moves made.ensures.state made.ensures.whole made.ensures.ending in
-    let logged = turn_logged g.inputs c.args.self.now.log.items old new c.args.self.now.charged made.result.count c.requires.reached turn made.ensures.state in
     record {
-      reached = subst (λ (log : List Entry). Reaches g.inputs log (open_state new (c.args.self.now.charged + c.from.result))) (sym c.in_ok-push.ensures.items)
-          (subst (λ (n : ℕ). Reaches g.inputs (c.args.self.now.log.items ++ Turn (record { 0 = 0 }) made.result.count ∷ []) (open_state new (c.args.self.now.charged + n))) (sym c.from.ensures) logged);
+      reached = turn_logged_as g.inputs c.args.self.now.log.items _ old new c.args.self.now.charged made.result.count c.from.result c.from-2.result c.requires.reached turn made.ensures.state c.in_ok-push.ensures.items c.from.ensures c.from-2.ensures;
       budget = c.requires.budget;
-      within = omega (arith, turn.within);
+      within = omega (arith, turn.within, c.from-2.ensures);
     }

@@ -1,7 +1,14 @@
 use Rattle.std.proofs.Common.{sym}
 use Rattle.std.proofs.lemmas.Result.{err_from_is_err_and}
 use Rattle.nd_base.proofs.LayoutFile.{found, refused, only_found, not_refused, not_found, only_refused}
+use Rattle.nd_base.proofs.Sound.{layout_sound}
 use Rattle.nd_base.proofs.layout.Layout.read.Goals as goal
+
+pub invariant_of-result : goal.invariant_of-result
+invariant_of-result c =
+    let text = c.args.text.now in
+    let o = c.in_ok-offsets.offsets in
+    layout_sound text o (found text o (sym c.in_ok-offsets.ensures))
 
 pub returns : goal.returns
 returns c =

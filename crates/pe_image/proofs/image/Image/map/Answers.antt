@@ -4,7 +4,8 @@ use Rattle.std.specs.List.{AllPairs}
 use Rattle.std.proofs.lemmas.Result.{on_ok_weaker, on_err_weaker}
 use Rattle.std.specs.FinMap as space
 use Rattle.nd_mem.specs.declared.RegionRefusal.TheVariants.{OutOfMemory}
-use Rattle.nd_mem.specs.Space.{Cells, either_of}
+use Rattle.std.specs.Option.{option_or}
+use Rattle.nd_mem.specs.Space.{Cells}
 use Rattle.pe_image.specs.declared.headers.Section.{Section}
 use Rattle.pe_image.specs.Image.{SectionPart, ImageParts, range_cell, image_cells, read_only, sections_refusal, map_refusal, sections_of, HasGainedPart}
 use Rattle.pe_image.specs.Inside.{parts_inside}
@@ -22,7 +23,7 @@ map_sections-requires-clause-free c =
     let base = c.args.base.0 in
     let image = parts_inside c.self.inside in
     let free : map_refusal old base image ≡ None = ap (map_refusal old base) c.self.view_is ∙ sym c.in_default.ensures in
-    let headers : (x : ℕ) → mid x ≡ either_of (old x) (range_cell base image.header_size image.headers read_only x) = subst (λ (bytes : List ℕ). (x : ℕ) → mid x ≡ either_of (old x) (range_cell base image.header_size bytes read_only x)) c.as_slice-headers.ensures.value c.in_ok-map_range.ensures.ok in
+    let headers : (x : ℕ) → mid x ≡ option_or (old x) (range_cell base image.header_size image.headers read_only x) = subst (λ (bytes : List ℕ). (x : ℕ) → mid x ≡ option_or (old x) (range_cell base image.header_size bytes read_only x)) c.as_slice-headers.ensures.value c.in_ok-map_range.ensures.ok in
     ap (sections_refusal mid base) (c.deref.ensures.value ∙ sym (sections_are c.self.inside c.self.invariant))
     ∙ still_free old mid base image image.sections c.self.invariant.laid_out.sections headers (either_none _ _ free).1
 
@@ -52,10 +53,10 @@ returns-clause-ok c =
     let contents : c.as_slice.result.now ≡ contents_of image base slots = c.as_slice.ensures.value ∙ c.in-Ok.ensures ∙ ap (λ (parts : ImageParts). contents_of parts base slots) (sym c.self.view_is) in
     let sections : c.deref.result.now ≡ sections_of image = c.deref.ensures.value ∙ sym (sections_are c.self.inside c.self.invariant) in
     let free : map_refusal old base image ≡ None = ap (map_refusal old base) c.self.view_is ∙ sym c.in_default.ensures in
-    let headers : (x : ℕ) → mid x ≡ either_of (old x) (range_cell base image.header_size image.headers read_only x) = subst (λ (bytes : List ℕ). (x : ℕ) → mid x ≡ either_of (old x) (range_cell base image.header_size bytes read_only x)) c.as_slice-headers.ensures.value c.in_ok-map_range.ensures.ok in
-    on_ok_weaker {P = (x : ℕ) → new x ≡ either_of (mid x) (filled_cell base c.as_slice.result.now c.deref.result.now x)} {Q = (x : ℕ) → new x ≡ either_of (image_cells c.args.self.now base slots x) (old x)} c.map_sections.result
-    (λ added. subst (λ (parts : ImageParts). (x : ℕ) → new x ≡ either_of (image_cells parts base slots x) (old x)) c.self.view_is
-    (whole_image old mid new base image slots c.self.invariant.laid_out free headers (λ x. added x ∙ ap (λ (bytes : List ℕ). either_of (mid x) (filled_cell base bytes c.deref.result.now x)) contents ∙ ap (λ (listed : List Section). either_of (mid x) (filled_cell base (contents_of image base slots) listed x)) sections)))
+    let headers : (x : ℕ) → mid x ≡ option_or (old x) (range_cell base image.header_size image.headers read_only x) = subst (λ (bytes : List ℕ). (x : ℕ) → mid x ≡ option_or (old x) (range_cell base image.header_size bytes read_only x)) c.as_slice-headers.ensures.value c.in_ok-map_range.ensures.ok in
+    on_ok_weaker {P = (x : ℕ) → new x ≡ option_or (mid x) (filled_cell base c.as_slice.result.now c.deref.result.now x)} {Q = (x : ℕ) → new x ≡ option_or (image_cells c.args.self.now base slots x) (old x)} c.map_sections.result
+    (λ added. subst (λ (parts : ImageParts). (x : ℕ) → new x ≡ option_or (image_cells parts base slots x) (old x)) c.self.view_is
+    (whole_image old mid new base image slots c.self.invariant.laid_out free headers (λ x. added x ∙ ap (λ (bytes : List ℕ). option_or (mid x) (filled_cell base bytes c.deref.result.now x)) contents ∙ ap (λ (listed : List Section). option_or (mid x) (filled_cell base (contents_of image base slots) listed x)) sections)))
     c.map_sections.ensures.ok
 
 nothing_gained : (old new : Cells) (base : ℕ) (image : ImageParts) (slots : List ℕ) → ((a : ℕ) → new a ≡ old a) → HasGainedPart image base slots old new
@@ -77,14 +78,14 @@ returns-clause-kept c =
     let contents : c.as_slice.result.now ≡ contents_of image base slots = c.as_slice.ensures.value ∙ c.in-Ok.ensures ∙ ap (λ (parts : ImageParts). contents_of parts base slots) (sym c.self.view_is) in
     let sections : c.deref.result.now ≡ sections_of image = c.deref.ensures.value ∙ sym (sections_are c.self.inside c.self.invariant) in
     let many : length c.deref.result.now ≡ length image.sections = ap length sections ∙ length-map image.sections (λ (part : SectionPart). part.section) in
-    let headers : (x : ℕ) → mid x ≡ either_of (old x) (range_cell base image.header_size image.headers read_only x) = subst (λ (bytes : List ℕ). (x : ℕ) → mid x ≡ either_of (old x) (range_cell base image.header_size bytes read_only x)) c.as_slice-headers.ensures.value c.in_ok-map_range.ensures.ok in
-    on_err_weaker {P = (n : ℕ) × (n < length c.deref.result.now) × ((x : ℕ) → new x ≡ either_of (mid x) (filled_cell base c.as_slice.result.now (take n c.deref.result.now) x))} {Q = HasGainedPart c.args.self.now base slots old new} c.map_sections.result
+    let headers : (x : ℕ) → mid x ≡ option_or (old x) (range_cell base image.header_size image.headers read_only x) = subst (λ (bytes : List ℕ). (x : ℕ) → mid x ≡ option_or (old x) (range_cell base image.header_size bytes read_only x)) c.as_slice-headers.ensures.value c.in_ok-map_range.ensures.ok in
+    on_err_weaker {P = (n : ℕ) × (n < length c.deref.result.now) × ((x : ℕ) → new x ≡ option_or (mid x) (filled_cell base c.as_slice.result.now (take n c.deref.result.now) x))} {Q = HasGainedPart c.args.self.now base slots old new} c.map_sections.result
     (λ kept. subst (λ (parts : ImageParts). HasGainedPart parts base slots old new) c.self.view_is
     (inr (
       kept.0,
       omega (arith, kept.1, many),
       front_image old mid new base image slots kept.0 c.self.invariant.laid_out headers
-          (λ x. kept.2 x ∙ ap (λ (bytes : List ℕ). either_of (mid x) (filled_cell base bytes (take kept.0 c.deref.result.now) x)) contents ∙ ap (λ (listed : List Section). either_of (mid x) (filled_cell base (contents_of image base slots) (take kept.0 listed) x)) sections),
+          (λ x. kept.2 x ∙ ap (λ (bytes : List ℕ). option_or (mid x) (filled_cell base bytes (take kept.0 c.deref.result.now) x)) contents ∙ ap (λ (listed : List Section). option_or (mid x) (filled_cell base (contents_of image base slots) (take kept.0 listed) x)) sections),
     )))
     c.map_sections.ensures.kept
 

@@ -1,6 +1,6 @@
 use Rattle.std.proofs.Common.{◌≡◌, ◌+◌, ◌<◌, ℕ, false, [], length, get_or, take, drop, ap, ◌∙◌, arith}
 use Rattle.std.specs.FinMap as map
-use Rattle.nd_mem.specs.Space.{either_of}
+use Rattle.std.specs.Option.{option_or}
 use Rattle.pe_image.specs.declared.headers.Section.{Section}
 use Rattle.pe_image.proofs.Mapping.{free_low}
 use Rattle.pe_image.proofs.Parts.{on_err_from}
@@ -30,7 +30,7 @@ loop-section-preserved c =
     let mid = map.get c.loop-section.mem in
     let new = map.get c.map_range.new.mem in
     let less : i < length sections = omega arith in
-    let added : (a : ℕ) → new a ≡ either_of (mid a) (section_cell_of base contents section a) = added_part mid new base contents section c.in_ok-map_range.ensures.ok in
+    let added : (a : ℕ) → new a ≡ option_or (mid a) (section_cell_of base contents section a) = added_part mid new base contents section c.in_ok-map_range.ensures.ok in
     record {
       mapped = filled_next (map.get c.args.mem.now) mid new base contents sections i no_section less c.loop-section.invariant.mapped added;
       free = later_free mid new base sections i no_section (take section.span (drop section.rva contents)) less c.requires.apart added c.loop-section.invariant.free;

@@ -1,0 +1,190 @@
+//! Drivers that return, that spend their budget, and that fault; and the text of an entry with all
+//! that it may have.
+
+use crate::runs::{READABLE, UNREADABLE, put_driver, run};
+use driver_entry::{Ending, Entry, Handler, Words, Write, Writes, text_of};
+use nd_base::{AdapterNo, Addr, Bytes, CtxNo, Status};
+use pe_image::Image;
+use std::alloc::Global;
+
+/// The line that each log begins with.
+const ENTER: &str = "enter - 0 driverentry e0000000,e0000008 -\n";
+
+/// A driver of this code ends so, with so many instructions, and its log is put behind the text.
+fn ends(
+    alloc: Global,
+    flags: u32,
+    code: &[u8],
+    budget: u32,
+    log: &mut String,
+) -> Option<(Ending, u32)> {
+    let mut file = Vec::new(alloc);
+    put_driver(&mut file, flags, code).ok()?;
+    let image = Image::read(alloc, &file).ok()?;
+    run(alloc, &image, budget, log)
+}
+
+/// Whether the log is the line of the enter and then these lines.
+fn has_lines(log: &str, lines: &str) -> bool {
+    log.len() == ENTER.len() + lines.len() && log.starts_with(ENTER) && log.ends_with(lines)
+}
+
+/// A driver of this code faults behind so many instructions, with this log behind its enter.
+fn faults(alloc: Global, flags: u32, code: &[u8], count: u32, lines: &str) -> bool {
+    let mut log = String::new(alloc);
+    ends(alloc, flags, code, 1000, &mut log) == Some((Ending::Faulting, count))
+        && has_lines(&log, lines)
+}
+
+/// Five is moved into EAX, minus five added, and eight bytes returned.
+#[test]
+fn a_driver_returns(rt: HostRuntime) {
+    let mut log = String::new(rt.alloc());
+    let code = [0xB8, 5, 0, 0, 0, 0x83, 0xC0, 0xFB, 0xC2, 8, 0];
+    let ending = ends(rt.alloc(), READABLE, &code, 4, &mut log);
+    let holds = ending == Some((Ending::Left(Status(0)), 3))
+        && has_lines(&log, "turn 0 3\nleave 0 00000000\n");
+    assert!(rt; holds);
+}
+
+/// The budget is spent by the last instruction before the return's address is reached.
+#[test]
+fn a_driver_spends_its_budget_at_the_return(rt: HostRuntime) {
+    let mut log = String::new(rt.alloc());
+    let code = [0xB8, 1, 0, 0, 0xC0, 0xC2, 8, 0];
+    let spent = ends(rt.alloc(), READABLE, &code, 2, &mut log) == Some((Ending::Spent, 2))
+        && has_lines(&log, "turn 0 2\n");
+    assert!(rt; spent);
+}
+
+/// A jump to itself.
+#[test]
+fn a_driver_spends_its_budget(rt: HostRuntime) {
+    let mut log = String::new(rt.alloc());
+    let ending = ends(rt.alloc(), READABLE, &[0xEB, 0xFE], 1_000_000, &mut log);
+    // 15,625 turns of 64
+    let holds = ending == Some((Ending::Spent, 1_000_000))
+        && log.len() == ENTER.len() + 15_625 * 10
+        && log.ends_with("turn 0 64\nturn 0 64\n");
+    assert!(rt; holds);
+}
+
+#[test]
+fn the_last_turn_is_cut_by_the_budget(rt: HostRuntime) {
+    let mut log = String::new(rt.alloc());
+    let ending = ends(rt.alloc(), READABLE, &[0xEB, 0xFE], 130, &mut log);
+    let holds = ending == Some((Ending::Spent, 130))
+        && has_lines(&log, "turn 0 64\nturn 0 64\nturn 0 2\n");
+    assert!(rt; holds);
+}
+
+/// D9 C0 is FLD ST(0).
+#[test]
+fn a_driver_faults_outside(rt: HostRuntime) {
+    let holds = faults(
+        rt.alloc(),
+        READABLE,
+        &[0xD9, 0xC0],
+        0,
+        "fault 0 outside 80101000\n",
+    );
+    assert!(rt; holds);
+}
+
+/// A jump to the last three bytes of the section, which begin a move.
+#[test]
+fn a_driver_faults_where_its_code_ends(rt: HostRuntime) {
+    let code = [0xEB, 11, 0, 0, 0, 0, 0, 0, 0, 0, 0, 0, 0, 0xB8, 1, 2];
+    let holds = faults(
+        rt.alloc(),
+        READABLE,
+        &code,
+        1,
+        "turn 0 1\nfault 0 unmapped 80101010\n",
+    );
+    assert!(rt; holds);
+}
+
+/// ESP is moved to the section itself, which may not be read, and the return reads there.
+#[test]
+fn a_driver_faults_unread(rt: HostRuntime) {
+    let code = [0xBC, 0, 0x10, 0x10, 0x80, 0xC2, 8, 0];
+    let holds = faults(
+        rt.alloc(),
+        UNREADABLE,
+        &code,
+        1,
+        "turn 0 1\nfault 0 notreadable 80101000\n",
+    );
+    assert!(rt; holds);
+}
+
+/// ESP is moved to a word that is the stack's first address, and the return goes there.
+#[test]
+fn a_driver_faults_in_its_stack(rt: HostRuntime) {
+    let code = [0xBC, 8, 0x10, 0x10, 0x80, 0xC2, 8, 0, 0, 0, 0, 0x82];
+    let holds = faults(
+        rt.alloc(),
+        READABLE,
+        &code,
+        2,
+        "turn 0 2\nfault 0 notexecutable 82000000\n",
+    );
+    assert!(rt; holds);
+}
+
+/// The same with the slot of import 2, of which none is served.
+#[test]
+fn a_driver_faults_at_an_import(rt: HostRuntime) {
+    let code = [0xBC, 8, 0x10, 0x10, 0x80, 0xC2, 8, 0, 0x10, 0, 0, 0xF0];
+    let holds = faults(
+        rt.alloc(),
+        READABLE,
+        &code,
+        2,
+        "turn 0 2\nfault 0 unmapped f0000010\n",
+    );
+    assert!(rt; holds);
+}
+
+/// Puts a write of these bytes behind the others.
+fn push_write(alloc: Global, writes: &mut Writes, at: u32, bytes: &[u8]) -> Option<()> {
+    let bytes = Bytes::copy(alloc, bytes).ok()?;
+    writes
+        .push(Write {
+            at: Addr(at),
+            bytes,
+        })
+        .ok()
+}
+
+/// An enter for adapter 3 in context 15, with no words and two writes.
+fn full_enter(alloc: Global) -> Option<Entry> {
+    let mut writes = Writes::new(alloc);
+    push_write(alloc, &mut writes, 0x8400_0000, &[])?;
+    push_write(alloc, &mut writes, 0x820F_8000, &[0, 0xFF, 0x1A])?;
+    Some(Entry::Enter {
+        adapter: Some(AdapterNo(3)),
+        context: CtxNo(15),
+        handler: Handler::DriverEntry,
+        words: Words::copy(alloc, &[]).ok()?,
+        writes,
+    })
+}
+
+/// Whether these entries have this text.
+fn has_text(alloc: Global, log: &[Entry], text: &str) -> bool {
+    text_of(alloc, log).is_ok_and(|found| found.as_str() == text)
+}
+
+#[test]
+fn an_enter_has_all_its_fields(rt: HostRuntime) {
+    let mut log = Vec::new(rt.alloc());
+    let pushed = match full_enter(rt.alloc()) {
+        Some(entry) => log.push(entry).is_ok(),
+        None => false,
+    };
+    let text = "enter 3 15 driverentry - 84000000:-,820f8000:00ff1a\n";
+    let holds = pushed && has_text(rt.alloc(), &log, text);
+    assert!(rt; holds);
+}

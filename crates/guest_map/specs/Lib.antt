@@ -1,0 +1,5 @@
+pub mod Blank
+pub mod Handles
+pub mod Laws
+pub mod Regions
+pub mod Slots

@@ -1,0 +1,5 @@
+//! Tests of guest_map.
+#![tactic(auto)]
+
+#[cfg(test)]
+mod tests;

@@ -1,0 +1,5 @@
+//! Tests of ia32_step.
+#![tactic(auto)]
+
+#[cfg(test)]
+mod tests;

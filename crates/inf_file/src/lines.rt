@@ -1,0 +1,90 @@
+//! Lists of lines.
+
+ghost use Rattle.std.specs.Prelude.{◌≡◌, ◌++◌, ◌∷◌, map, None, IfOk, OnOk};
+ghost use Rattle.std.specs.Option.{option_copied};
+ghost use Rattle.inf_file.specs.Earliest.{earlier};
+ghost use Rattle.inf_file.specs.Parameters.{lines_of_all, lines_read, directives_of, is_directive};
+
+use crate::sections::{Inf, Line};
+use nd_base::OutOfMemory;
+use std::alloc::Global;
+
+/// Of two lines the one that stands first in the file.
+pub fn earlier<'a>(best: Option<&'a Line>, line: &'a Line) -> Option<&'a Line>
+    ensures { option_copied result ≡ earlier (option_copied best.entry) line.now }
+{
+    match best {
+        None => Some(line),
+        Some(first) => {
+            if line.number() < first.number() {
+                Some(line)
+            } else {
+                Some(first)
+            }
+        }
+    }
+}
+
+/// Puts lines behind the last one.
+fn push_lines<'a>(found: &mut Vec<&'a Line>, lines: &'a [Line]) -> Result<(), OutOfMemory>
+    ensures { OnOk result (map (λ l. l.now) found.new.items ≡ map (λ l. l.now) found.old.items ++ lines.now) }
+{
+    for line in lines {
+        found.push(line)?;
+    }
+    Ok(())
+}
+
+/// The lines of the sections at these places, one section after the other.
+pub fn lines_of_all<'a>(
+    inf: &'a Inf,
+    alloc: Global,
+    places: &[usize],
+) -> Result<Vec<&'a Line>, OutOfMemory>
+    ensures { IfOk result (λ v. map (λ l. l.now) v.items ≡ lines_of_all inf.now places.now) }
+{
+    let mut found = Vec::new(alloc);
+    for place in places {
+        push_lines(&mut found, inf.lines_at(*place))?;
+    }
+    Ok(found)
+}
+
+/// Whether a line is an AddReg directive.
+fn is_directive(line: &Line) -> bool
+    ensures { result ≡ is_directive line.now }
+{
+    line.has_key(b"AddReg")
+}
+
+/// The AddReg directives among lines.
+pub fn directives_of(alloc: Global, lines: &[Line]) -> Result<Vec<&Line>, OutOfMemory>
+    ensures { IfOk result (λ v. map (λ l. l.now) v.items ≡ directives_of lines.now) }
+{
+    let mut found = Vec::new(alloc);
+    for line in lines {
+        if is_directive(line) {
+            found.push(line)?;
+        }
+    }
+    Ok(found)
+}
+
+/// The lines that are read: those of the manufacturers, the model's, the AddReg directives and the
+/// rows.
+pub fn lines_read<'a>(
+    alloc: Global,
+    makers: &'a [Line],
+    model: &'a Line,
+    directives: &[&'a Line],
+    rows: &[&'a Line],
+) -> Result<Vec<&'a Line>, OutOfMemory>
+    ensures { IfOk result (λ v. map (λ l. l.now) v.items ≡ lines_read makers.now model.now (map (λ l. l.now) directives.now) (map (λ l. l.now) rows.now)) }
+{
+    let mut read = Vec::new(alloc);
+    push_lines(&mut read, makers)?;
+    read.push(model)?;
+    read.extend_from_slice(directives)?;
+    read.extend_from_slice(rows)?;
+    Ok(read)
+}

@@ -1,0 +1,5 @@
+//! Tests of nd_base.
+#![tactic(auto)]
+
+#[cfg(test)]
+mod tests;

@@ -1,0 +1,5 @@
+mod files;
+mod layouts;
+mod rows;
+mod strings;
+mod texts;

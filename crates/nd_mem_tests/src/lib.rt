@@ -1,0 +1,5 @@
+//! Tests of nd_mem.
+#![tactic(auto)]
+
+#[cfg(test)]
+mod tests;

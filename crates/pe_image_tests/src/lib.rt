@@ -1,0 +1,5 @@
+//! Tests of pe_image.
+#![tactic(auto)]
+
+#[cfg(test)]
+mod tests;

@@ -1,0 +1,5 @@
+mod files;
+mod largest;
+mod mapping;
+mod reading;
+mod refusals;

@@ -1,0 +1,9 @@
+pub mod Behind
+pub mod Exact
+pub mod Found
+pub mod Fronts
+pub mod Inverse
+pub mod Laws
+pub mod Ranges
+pub mod Scalar
+pub mod Whole

@@ -1,0 +1,5 @@
+pub mod Codes
+pub mod Lines
+pub mod Logs
+pub mod Names
+pub mod Parties

@@ -6,7 +6,7 @@ use Rattle.std.proofs.lemmas.Bool.{false≢true, cond-true, cond-false, lt-ltb, 
 use Rattle.ia32_decode.specs.Operands.{place, offset_alone, immediate}
 use Rattle.ia32_decode.specs.Rows.{operand_of, built, allows, fits, may_fit, ending, after_modrm, by_modrm, at_offset, addressed}
 use Rattle.ia32_decode.specs.Opcodes.{rows_of, row_of, first_of, second_of, behind_opcode, extended, after_first, body}
-use Rattle.ia32_decode.specs.Prefixes.{is_prefix, set_of, AreOnce}
+use Rattle.ia32_decode.specs.Prefixes.{is_prefix, set_of, AreOnce, IsPrefixed}
 use Rattle.ia32_decode.specs.Decoding.{Spells}
 use Rattle.ia32_decode.specs.Encoding.{number_bytes, prefix_bytes, one_if, tail_bytes, bytes_of, immediate_number, place_fields, offset_fields, fields_of, is_rm, is_reg, rm_among, rm_at, rm_of, register_of, reg_of, IsTail, IsTailOf, IsGroupTail, IsEntryTail, IsFormat, entry_of, prefixes_of, IsLowNumber, IsLowByte, IsLow}
 use Rattle.ia32_decode.specs.declared.prefixes.Prefixes.{Prefixes}
@@ -84,13 +84,13 @@ rm_of-is : (form : Form) (v : Instr) → rm_of form v ≡ rm_at form.addressing 
 unfolding rm_of
 rm_of-is form v = refl
 
-tail_of_row : (prefixes : Prefixes) (opcode : ℕ) (group_row : Option Row) (reg : ℕ) (v : Instr) (tail : Tail) → IsTailOf prefixes opcode group_row reg v tail → (row : Row) × (group_row ≡ Some row) × IsTail prefixes opcode row reg v tail
+pub tail_of_row : (prefixes : Prefixes) (opcode : ℕ) (group_row : Option Row) (reg : ℕ) (v : Instr) (tail : Tail) → IsTailOf prefixes opcode group_row reg v tail → (row : Row) × (group_row ≡ Some row) × IsTail prefixes opcode row reg v tail
 tail_of_row prefixes opcode None reg v tail h = absurd h
 tail_of_row prefixes opcode (Some row) reg v tail h = (row, refl, h)
 
 -- ---- every row of a group has a ModRM byte
 
-abbrev uses_modrm : Addressing → Bool
+abbrev pub uses_modrm : Addressing → Bool
 uses_modrm addressings.Any = true
 uses_modrm addressings.Memory = true
 uses_modrm addressings.Absent = false
@@ -123,7 +123,7 @@ group_has_modrm groups.AtFE reg h = agree_below_at (has_modrm_at groups.AtFE) (�
 group_has_modrm groups.AtFF reg h = agree_below_at (has_modrm_at groups.AtFF) (λ _. true) 8 reg refl h
 group_has_modrm groups.At0FBA reg h = agree_below_at (has_modrm_at groups.At0FBA) (λ _. true) 8 reg refl h
 
-modrm_fields : (kind : Addressing) (rm : Operand) (reg : ℕ) → uses_modrm kind ≡ true → fields_of kind rm reg ≡ place_fields rm reg
+pub modrm_fields : (kind : Addressing) (rm : Operand) (reg : ℕ) → uses_modrm kind ≡ true → fields_of kind rm reg ≡ place_fields rm reg
 modrm_fields addressings.Any rm reg h = refl
 modrm_fields addressings.Memory rm reg h = refl
 modrm_fields addressings.Absent rm reg h = absurd (false≢true h)
@@ -153,7 +153,7 @@ cond_low : (b : Bool) (x y : ℕ) → x < 8 → y < 8 → cond b x y < 8
 cond_low true x y p q = p
 cond_low false x y p q = q
 
-reg_low : (form : Form) (v : Instr) → reg_of form v < 8
+pub reg_low : (form : Form) (v : Instr) → reg_of form v < 8
 unfolding reg_of
 reg_low form v = cond_low (is_reg form.first) _ _ (register_low v.first) (cond_low (is_reg form.second) _ _ (register_low v.second) (omega arith))
 
@@ -228,7 +228,7 @@ operand_same sources.Accumulator opcode m n rm other p q = refl
 operand_same sources.Counter opcode m n rm other p q = refl
 operand_same sources.Immediate opcode m n rm other p q = refl
 
-rm_operand : (s : Source) (opcode m : ℕ) (rm : Operand) → is_rm s ≡ true → operand_of s opcode m rm ≡ rm
+pub rm_operand : (s : Source) (opcode m : ℕ) (rm : Operand) → is_rm s ≡ true → operand_of s opcode m rm ≡ rm
 rm_operand sources.Absent opcode m rm h = absurd (false≢true h)
 rm_operand sources.Rm opcode m rm h = refl
 rm_operand sources.Reg opcode m rm h = absurd (false≢true h)
@@ -409,28 +409,31 @@ entry_prefixes prefixes opcode (entries.Group group) v tail t =
     let r = tail_of_row prefixes opcode (slice_index_or (rows_of group) t.reg None) t.reg v tail t.at in
     tail_prefixes prefixes opcode r.0 t.reg v tail r.2
 
--- no opcode of a map has a tail for the instruction
-abbrev pub None_in : Instr → (ℕ → Entry) → Type 0
-None_in v entry_at = (short : Bool) (opcode : ℕ) (tail : Tail) → opcode < 256 → IsEntryTail (prefixes_of v short) opcode (entry_at opcode) v tail → ⊥
+-- what follows of a tail of an opcode of a map, with 66 or without
+abbrev pub Follows : (Bool → Type 0) → Instr → (ℕ → Entry) → Type 0
+Follows G v entry_at = (short : Bool) (opcode : ℕ) (tail : Tail) → opcode < 256 → IsEntryTail (prefixes_of v short) opcode (entry_at opcode) v tail → G short
 
-entry_refuted : (prefixes : Prefixes) (opcode : ℕ) (entry_at : ℕ → Entry) (bytes : List ℕ) (v : Instr) → opcode < 2 ^ 8 → (behind_opcode prefixes opcode (entry_at opcode)).spells bytes v → None_in v entry_at → ⊥
-entry_refuted prefixes opcode entry_at bytes v p h none =
+entry_follows : (G : Bool → Type 0) (prefixes : Prefixes) (opcode : ℕ) (entry_at : ℕ → Entry) (bytes : List ℕ) (v : Instr) → opcode < 2 ^ 8 → (behind_opcode prefixes opcode (entry_at opcode)).spells bytes v → Follows G v entry_at → G prefixes.operand_size
+entry_follows G prefixes opcode entry_at bytes v p h f =
     let t = entry_found prefixes opcode (entry_at opcode) bytes v h in
     let same = entry_prefixes prefixes opcode (entry_at opcode) v t.0 t.1 in
-    none prefixes.operand_size opcode t.0 p (subst (λ prefixes. IsEntryTail prefixes opcode (entry_at opcode) v t.0) same t.1)
+    f prefixes.operand_size opcode t.0 p (subst (λ prefixes. IsEntryTail prefixes opcode (entry_at opcode) v t.0) same t.1)
 
-after_refuted : (prefixes : Prefixes) (opcode : ℕ) (entry : Entry) (bytes : List ℕ) (v : Instr) → opcode < 2 ^ 8 → first_of opcode ≡ entry → (after_first prefixes opcode entry).spells bytes v → None_in v first_of → None_in v second_of → ⊥
+after_follows : (G : Bool → Type 0) (prefixes : Prefixes) (opcode : ℕ) (entry : Entry) (bytes : List ℕ) (v : Instr) → opcode < 2 ^ 8 → first_of opcode ≡ entry → (after_first prefixes opcode entry).spells bytes v → Follows G v first_of → Follows G v second_of → G prefixes.operand_size
 unfolding extended
-after_refuted prefixes opcode entries.Outside bytes v p e h none none_second = entry_refuted prefixes opcode first_of bytes v p (subst (λ entry. (behind_opcode prefixes opcode entry).spells bytes v) (sym e) h) none
-after_refuted prefixes opcode entries.Escape [] v p e h none none_second = h
-after_refuted prefixes opcode entries.Escape (b ∷ bytes) v p e h none none_second = entry_refuted prefixes b second_of bytes v h.0 h.1 none_second
-after_refuted prefixes opcode (entries.One row) bytes v p e h none none_second = entry_refuted prefixes opcode first_of bytes v p (subst (λ entry. (behind_opcode prefixes opcode entry).spells bytes v) (sym e) h) none
-after_refuted prefixes opcode (entries.Group group) bytes v p e h none none_second = entry_refuted prefixes opcode first_of bytes v p (subst (λ entry. (behind_opcode prefixes opcode entry).spells bytes v) (sym e) h) none
+after_follows G prefixes opcode entries.Outside bytes v p e h f g = entry_follows G prefixes opcode first_of bytes v p (subst (λ entry. (behind_opcode prefixes opcode entry).spells bytes v) (sym e) h) f
+after_follows G prefixes opcode entries.Escape [] v p e h f g = absurd h
+after_follows G prefixes opcode entries.Escape (b ∷ bytes) v p e h f g = entry_follows G prefixes b second_of bytes v h.0 h.1 g
+after_follows G prefixes opcode (entries.One row) bytes v p e h f g = entry_follows G prefixes opcode first_of bytes v p (subst (λ entry. (behind_opcode prefixes opcode entry).spells bytes v) (sym e) h) f
+after_follows G prefixes opcode (entries.Group group) bytes v p e h f g = entry_follows G prefixes opcode first_of bytes v p (subst (λ entry. (behind_opcode prefixes opcode entry).spells bytes v) (sym e) h) f
 
-body_refuted : (prefixes : Prefixes) (bytes : List ℕ) (v : Instr) → (body prefixes).spells bytes v → None_in v first_of → None_in v second_of → ⊥
+body_follows : (G : Bool → Type 0) (prefixes : Prefixes) (bytes : List ℕ) (v : Instr) → (body prefixes).spells bytes v → Follows G v first_of → Follows G v second_of → G prefixes.operand_size
 unfolding body
-body_refuted prefixes [] v h none none_second = h
-body_refuted prefixes (b ∷ bytes) v h none none_second = after_refuted prefixes b (first_of b) bytes v h.0 refl h.1 none none_second
+body_follows G prefixes [] v h f g = absurd h
+body_follows G prefixes (b ∷ bytes) v h f g = after_follows G prefixes b (first_of b) bytes v h.0 refl h.1 f g
 
-pub nothing_spelled : (bytes : List ℕ) (v : Instr) → Spells bytes v → None_in v first_of → None_in v second_of → ⊥
-nothing_spelled bytes v h none none_second = body_refuted (set_of h.prefixes) h.rest v h.spelled none none_second
+pub spelled_follows : (G : Bool → Type 0) (bytes : List ℕ) (v : Instr) (h : IsPrefixed bytes v) → Follows G v first_of → Follows G v second_of → G (set_of h.prefixes).operand_size
+spelled_follows G bytes v h f g = body_follows G (set_of h.prefixes) h.rest v h.spelled f g
+
+pub nothing_spelled : (bytes : List ℕ) (v : Instr) → Spells bytes v → Follows (λ _. ⊥) v first_of → Follows (λ _. ⊥) v second_of → ⊥
+nothing_spelled bytes v h f g = spelled_follows (λ _. ⊥) bytes v h f g

@@ -4,3 +4,4 @@ pub mod Opcodes
 pub mod Prefixes
 pub mod Decoding
 pub mod Encoding
+pub mod Permitted

@@ -6,6 +6,7 @@ ghost use Rattle.codes.specs.Exact.{IsAtMost};
 ghost use Rattle.codes.specs.Readings.{IsPrefixFree};
 ghost use Rattle.ia32_decode.specs.Prefixes.{none, read_behind, instruction};
 ghost use Rattle.ia32_decode.specs.Decoding.{IsOnlyDecoding, decoded, DecodingIsExact, SpelledIsDecoded};
+ghost use Rattle.ia32_decode.specs.Permitted.{PrefixesArePermitted, FloatingPointIsOutside};
 
 use crate::instruction::Instr;
 use crate::prefixes::{NONE, is_prefix, takes, with_prefix};
@@ -75,4 +76,14 @@ pub fn spelling_is_one()
 /// An instruction has at most 15 bytes.
 pub fn at_most_fifteen_bytes()
     ensures { IsAtMost instruction 15 }
+{}
+
+/// Prefixes stand only where the manual lets them, whatever a row of the tables says.
+pub fn prefixes_are_permitted()
+    ensures { PrefixesArePermitted }
+{}
+
+/// No instruction has an opcode of floating point.
+pub fn floating_point_is_outside()
+    ensures { FloatingPointIsOutside }
 {}

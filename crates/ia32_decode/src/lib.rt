@@ -19,7 +19,8 @@ mod second_map;
 mod spelling;
 
 pub use decoding::{
-    Decoded, at_most_fifteen_bytes, decode, decoding_is_exact, spelled_is_decoded, spelling_is_one,
+    Decoded, at_most_fifteen_bytes, decode, decoding_is_exact, floating_point_is_outside,
+    prefixes_are_permitted, spelled_is_decoded, spelling_is_one,
 };
 pub use encoding::encode;
 pub use instruction::{Condition, Instr, Op, Operand, Repeat};

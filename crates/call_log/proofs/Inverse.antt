@@ -1,90 +1,18 @@
 -- An entry is told by its kind and fields.
-use Rattle.std.proofs.Common.{◌≡◌, ℕ, zero, suc, Bool, true, false, List, [], ◌∷◌, map, Option, Some, None, refl, sym, ap, ◌∙◌}
-use Rattle.std.specs.Option.{option_map}
-use Rattle.call_log.specs.declared.entry.Entry.{Entry}
-use Rattle.call_log.specs.declared.entry.Entry.TheVariants as entries
-use Rattle.call_log.specs.declared.entry.Question.{Question}
-use Rattle.call_log.specs.declared.entry.Question.TheVariants as questions
-use Rattle.call_log.specs.declared.entry.Cause.{Cause}
-use Rattle.call_log.specs.declared.entry.Cause.TheVariants as causes
-use Rattle.call_log.specs.declared.entry.Condition.{Condition}
-use Rattle.call_log.specs.declared.entry.Condition.TheVariants as whats
+use Rattle.std.proofs.Common.{◌≡◌, Bool, List, map, Option, refl, sym, ap, ◌∙◌}
 use Rattle.nd_base.specs.declared.numbers.AdapterNo.{AdapterNo}
 use Rattle.nd_base.specs.declared.numbers.BindingNo.{BindingNo}
-use Rattle.call_log.specs.declared.write.Write.{Write}
-use Rattle.call_log.specs.declared.names.Kind.{Kind}
-use Rattle.call_log.specs.declared.names.Kind.TheVariants as kinds
-use Rattle.call_log.specs.declared.names.CauseKind.{CauseKind}
-use Rattle.call_log.specs.declared.names.CauseKind.TheVariants as cause_kinds
-use Rattle.call_log.specs.declared.names.ConditionKind.{ConditionKind}
-use Rattle.call_log.specs.declared.names.ConditionKind.TheVariants as what_kinds
-use Rattle.call_log.specs.Lines.{Line, Fields, line_of, flag_of, Asked, question_of, Caused, cause_of, Awaited, what_of, write_of}
-
-abbrev holders_back : List ℕ → List BindingNo
-holders_back [] = []
-holders_back (n ∷ ns) = record { 0 = n } ∷ holders_back ns
-
-holders_are : (hs : List BindingNo) → holders_back (map (λ h. h.0) hs) ≡ hs
-holders_are [] = refl
-holders_are (h ∷ hs) = ap (λ (xs : List BindingNo). h ∷ xs) (holders_are hs)
-
-abbrev writes_back : List (ℕ × List ℕ) → List Write
-writes_back [] = []
-writes_back (w ∷ ws) = record { at = record { 0 = w.0 }; bytes = w.1 } ∷ writes_back ws
-
-writes_are : (ws : List Write) → writes_back (map write_of ws) ≡ ws
-writes_are [] = refl
-writes_are (w ∷ ws) = ap (λ (xs : List Write). w ∷ xs) (writes_are ws)
-
-abbrev adapter_back : Option ℕ → Option AdapterNo
-adapter_back None = None
-adapter_back (Some n) = Some (record { 0 = n })
-
-adapter_is : (a : Option AdapterNo) → adapter_back (option_map (λ a. a.0) a) ≡ a
-adapter_is None = refl
-adapter_is (Some a) = refl
-
-abbrev flag_back : ℕ → Bool
-flag_back zero = false
-flag_back (suc n) = true
-
-flag_is : (b : Bool) → flag_back (flag_of b) ≡ b
-flag_is false = refl
-flag_is true = refl
-
-abbrev question_back : (q : Bool) → Asked q → Question
-question_back true x = questions.Query x.0 x.1
-question_back false x = questions.Set x.0 x.1
-
-question_is : (q : Question) → question_back (question_of q).0 (question_of q).1 ≡ q
-question_is (questions.Query oid length) = refl
-question_is (questions.Set oid bytes) = refl
-
-abbrev cause_back : (k : CauseKind) → Caused k → Cause
-cause_back cause_kinds.Breach x = causes.Breach (record { 0 = x })
-cause_back cause_kinds.Budget x = causes.Budget
-cause_back cause_kinds.Memory x = causes.Memory
-
-cause_is : (c : Cause) → cause_back (cause_of c).0 (cause_of c).1 ≡ c
-cause_is (causes.Breach n) = refl
-cause_is causes.Budget = refl
-cause_is causes.Memory = refl
-
-abbrev what_back : (k : ConditionKind) → Awaited k → Condition
-what_back what_kinds.Up x = whats.Up
-what_back what_kinds.Sent x = whats.Sent
-what_back what_kinds.Replies x = whats.Replies
-what_back what_kinds.Frames x = whats.Frames x
-what_back what_kinds.Room x = whats.Room
-what_back what_kinds.All x = whats.All
-
-what_is : (w : Condition) → what_back (what_of w).0 (what_of w).1 ≡ w
-what_is whats.Up = refl
-what_is whats.Sent = refl
-what_is whats.Replies = refl
-what_is (whats.Frames n) = refl
-what_is whats.Room = refl
-what_is whats.All = refl
+use Rattle.log_fields.specs.declared.field_values.Question.{Question}
+use Rattle.log_fields.specs.declared.field_values.Cause.{Cause}
+use Rattle.log_fields.specs.declared.field_values.Condition.{Condition}
+use Rattle.log_fields.specs.declared.write.Write.{Write}
+use Rattle.log_fields.specs.Fields.{flag_of, write_of}
+use Rattle.log_fields.specs.ValueLaws.{holders_back, holders_are, writes_back, writes_are, adapter_back, adapter_is, flag_back, flag_is, question_back, question_is, cause_back, cause_is, what_back, what_is}
+use Rattle.call_log.specs.declared.entry.Entry.{Entry}
+use Rattle.call_log.specs.declared.entry.Entry.TheVariants as entries
+use Rattle.call_log.specs.declared.kinds.Kind.{Kind}
+use Rattle.call_log.specs.declared.kinds.Kind.TheVariants as kinds
+use Rattle.call_log.specs.Lines.{Line, Fields, line_of}
 
 abbrev entry_at : (k : Kind) → Fields k → Entry
 entry_at kinds.Bind x = entries.Bind (record { 0 = x.0 }) (record { 0 = x.1 })

@@ -1,9 +1,8 @@
 pub mod Behind
-pub mod Exact
 pub mod Found
-pub mod Fronts
+pub mod Held
 pub mod Inverse
 pub mod Laws
+pub mod Printed
 pub mod Ranges
-pub mod Scalar
 pub mod Whole

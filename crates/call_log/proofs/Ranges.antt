@@ -1,30 +1,15 @@
 -- What fits is in its range.
-use Rattle.std.proofs.Common.{◌≡◌, ℕ, ◌≤◌, true, zero, suc, List, [], ◌∷◌, ◌++◌, Option, Some, None, sym, subst, arith}
-use Rattle.std.specs.Prelude.{nat_le, slice_get, option_copied, IfSome}
-use Rattle.std.proofs.lemmas.Bool.{leb-true}
+use Rattle.std.proofs.Common.{◌≡◌, ℕ, zero, suc, List, [], ◌∷◌, ◌++◌, Option, Some, None, sym, subst}
+use Rattle.std.specs.Prelude.{slice_get, option_copied, IfSome}
 use Rattle.std.proofs.lemmas.Option.{none-some, same_Some}
 use denote.Ref.{Bor}
-use Rattle.call_log.specs.Lines.{line, line_of, width, rule, cause_of, caused, Caused, HasRule, InRange}
+use Rattle.log_fields.specs.Names.{import_name}
+use Rattle.log_fields.specs.NameLaws.{import_range}
+use Rattle.log_fields.specs.RangeLaws.{width_range, cause_range}
+use Rattle.call_log.specs.Lines.{line, line_of, InRange}
 use Rattle.call_log.specs.Logs.{Fits, AllFit, AllInRange}
-use Rattle.call_log.specs.Names.{import_name}
 use Rattle.call_log.specs.declared.entry.Entry.{Entry}
 use Rattle.call_log.specs.declared.entry.Entry.TheVariants as entries
-use Rattle.call_log.specs.declared.entry.Cause.{Cause}
-use Rattle.call_log.specs.declared.entry.Cause.TheVariants as causes
-use Rattle.call_log.proofs.Found.{import_range}
-
-width_range : (n : ℕ) → width.fits n → (1 ≤ n) × (n ≤ 2)
-unfolding width
-width_range n h = (leb-true 1 n h.1, h.0)
-
-rule_range : (n : ℕ) → rule.fits n → (1 ≤ n) × (n ≤ 14)
-unfolding rule
-rule_range n h = (leb-true 1 n h.1, h.0)
-
-cause_range : (c : Cause) → (caused (cause_of c).0).fits (cause_of c).1 → HasRule c
-cause_range (causes.Breach n) h = rule_range n.0 h
-cause_range causes.Budget h = tt
-cause_range causes.Memory h = tt
 
 pub fits_in_range : (e : Entry) → Fits e → InRange e
 unfolding line line_of

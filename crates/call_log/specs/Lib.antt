@@ -1,5 +1,5 @@
-pub mod Codes
+pub mod Held
+pub mod Kinds
 pub mod Lines
 pub mod Logs
-pub mod Names
 pub mod Parties

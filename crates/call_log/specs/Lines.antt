@@ -1,151 +1,13 @@
 -- The lines of a log: each entry is a kind and that kind's fields. The project's own (docs/LOG.md).
-use Rattle.std.specs.Prelude.{ℕ, ◌-◌, ◌^◌, ◌≡◌, ◌≤◌, ◌&&◌, nat_le, Bool, true, false, List, [], ◌∷◌, ◌++◌, length, map, Option, Some, None, if◌then◌else◌, codes}
+use Rattle.std.specs.Prelude.{ℕ, ◌≤◌, List, [], ◌∷◌, ◌++◌, map, Some}
 use Rattle.std.specs.Option.{option_map}
-use Rattle.std.specs.List.{flat_map}
-use Rattle.call_log.specs.Codes.{Code, Read, and_then, number, word, octet, byte_string, named, such, behind, none, chosen, ◌▹◌, optional, listed}
-use Rattle.call_log.specs.Names.{kind_name, kinds_all, handler_name, handlers_all, fault_name, faults_all, import_name, imports_all, cause_name, causes_all, what_name, whats_all}
+use Rattle.log_fields.specs.Codes.{Code, Read, and_then, word, octet, byte_string, named, behind, chosen, ◌▹◌, optional, listed}
+use Rattle.log_fields.specs.Fields.{small, medium, large, flag, flag_of, width, handler, fault_kind, import, direction, write, write_of, question, question_of, cause, cause_of, what, what_of, HasRule}
+use Rattle.call_log.specs.Kinds.{kind_name, kinds_all}
 use Rattle.call_log.specs.declared.entry.Entry.{Entry}
 use Rattle.call_log.specs.declared.entry.Entry.TheVariants as entries
-use Rattle.call_log.specs.declared.entry.Question.{Question}
-use Rattle.call_log.specs.declared.entry.Question.TheVariants as questions
-use Rattle.call_log.specs.declared.entry.Cause.{Cause}
-use Rattle.call_log.specs.declared.entry.Cause.TheVariants as causes
-use Rattle.call_log.specs.declared.entry.Condition.{Condition}
-use Rattle.call_log.specs.declared.entry.Condition.TheVariants as whats
-use Rattle.call_log.specs.declared.entry.Direction.{Direction}
-use Rattle.call_log.specs.declared.entry.Direction.TheVariants as directions
-use Rattle.call_log.specs.declared.entry.Handler.{Handler}
-use Rattle.call_log.specs.declared.entry.FaultKind.{FaultKind}
-use Rattle.call_log.specs.declared.write.Write.{Write}
-use Rattle.call_log.specs.declared.names.CauseKind.{CauseKind}
-use Rattle.call_log.specs.declared.names.CauseKind.TheVariants as cause_kinds
-use Rattle.call_log.specs.declared.names.ConditionKind.{ConditionKind}
-use Rattle.call_log.specs.declared.names.ConditionKind.TheVariants as what_kinds
-use Rattle.call_log.specs.declared.names.Kind.{Kind}
-use Rattle.call_log.specs.declared.names.Kind.TheVariants as kinds
-
--- ---- fields
-
-unfoldable pub small : Code ℕ
-small = number (2 ^ 8 - 1)
-
-unfoldable pub medium : Code ℕ
-medium = number (2 ^ 32 - 1)
-
-unfoldable pub large : Code ℕ
-large = number (2 ^ 64 - 1)
-
-unfoldable pub flag : Code ℕ
-flag = number 1
-
-abbrev pub flag_of : Bool → ℕ
-flag_of false = 0
-flag_of true = 1
-
-unfoldable pub width : Code ℕ
-width = such (nat_le 1) (number 2)
-
-unfoldable pub rule : Code ℕ
-rule = such (nat_le 1) (number 14)
-
-abbrev pub handler : Code Handler
-handler = named handler_name handlers_all
-
-abbrev pub fault_kind : Code FaultKind
-fault_kind = named fault_name faults_all
-
-abbrev pub import : Code ℕ
-import = named import_name imports_all
-
-abbrev pub direction_name : Direction → List ℕ
-direction_name directions.In = codes "in"
-direction_name directions.Out = codes "out"
-
-abbrev pub direction : Code Direction
-direction = named direction_name (directions.In ∷ directions.Out ∷ [])
-
-abbrev pub write : Code (ℕ × List ℕ)
-write = record {
-  fits = λ w. word.fits w.0 × byte_string.fits w.1;
-  text = λ w. word.text w.0 ++ (behind 58 byte_string).text w.1;
-  read = (chosen word (λ _. List ℕ) (λ _. behind 58 byte_string)).read;
-}
-
--- ---- fields of which the first is a word
-
--- a word, and what its kind has behind it
-abbrev pub question_name : Bool → List ℕ
-question_name true = codes "query"
-question_name false = codes "set"
-
-abbrev pub Asked : Bool → Type 0
-Asked true = ℕ × ℕ
-Asked false = ℕ × List ℕ
-
-abbrev pub asked : (q : Bool) → Code (Asked q)
-asked true = behind 32 (word ▹ medium)
-asked false = behind 32 (word ▹ byte_string)
-
-abbrev pub question : Code ((q : Bool) × Asked q)
-question = chosen (named question_name (true ∷ false ∷ [])) Asked asked
-
-abbrev pub question_of : Question → (q : Bool) × Asked q
-question_of (questions.Query oid length) = (true, (oid, length))
-question_of (questions.Set oid bytes) = (false, (oid, bytes))
-
-abbrev pub Caused : CauseKind → Type 0
-Caused cause_kinds.Breach = ℕ
-Caused cause_kinds.Budget = Unit {0}
-Caused cause_kinds.Memory = Unit {0}
-
-abbrev pub caused : (k : CauseKind) → Code (Caused k)
-caused cause_kinds.Breach = behind 32 rule
-caused cause_kinds.Budget = none
-caused cause_kinds.Memory = none
-
-abbrev pub cause : Code ((k : CauseKind) × Caused k)
-cause = chosen (named cause_name causes_all) Caused caused
-
-abbrev pub read_caused : CauseKind → List ℕ → Read ((k : CauseKind) × Caused k)
-read_caused k bytes = and_then ((caused k).read bytes) (λ y rest. Some ((k, y), rest))
-
-abbrev pub cause_of : Cause → (k : CauseKind) × Caused k
-cause_of (causes.Breach n) = (cause_kinds.Breach, n.0)
-cause_of causes.Budget = (cause_kinds.Budget, tt)
-cause_of causes.Memory = (cause_kinds.Memory, tt)
-
-abbrev pub Awaited : ConditionKind → Type 0
-Awaited what_kinds.Up = Unit {0}
-Awaited what_kinds.Sent = Unit {0}
-Awaited what_kinds.Replies = Unit {0}
-Awaited what_kinds.Frames = ℕ
-Awaited what_kinds.Room = Unit {0}
-Awaited what_kinds.All = Unit {0}
-
-abbrev pub awaited : (k : ConditionKind) → Code (Awaited k)
-awaited what_kinds.Up = none
-awaited what_kinds.Sent = none
-awaited what_kinds.Replies = none
-awaited what_kinds.Frames = behind 32 large
-awaited what_kinds.Room = none
-awaited what_kinds.All = none
-
-abbrev pub what : Code ((k : ConditionKind) × Awaited k)
-what = chosen (named what_name whats_all) Awaited awaited
-
-abbrev pub read_awaited : ConditionKind → List ℕ → Read ((k : ConditionKind) × Awaited k)
-read_awaited k bytes = and_then ((awaited k).read bytes) (λ y rest. Some ((k, y), rest))
-
-abbrev pub what_of : Condition → (k : ConditionKind) × Awaited k
-what_of whats.Up = (what_kinds.Up, tt)
-what_of whats.Sent = (what_kinds.Sent, tt)
-what_of whats.Replies = (what_kinds.Replies, tt)
-what_of (whats.Frames n) = (what_kinds.Frames, n)
-what_of whats.Room = (what_kinds.Room, tt)
-what_of whats.All = (what_kinds.All, tt)
-
-abbrev pub write_of : Write → ℕ × List ℕ
-write_of w = (w.at.0, w.bytes)
+use Rattle.call_log.specs.declared.kinds.Kind.{Kind}
+use Rattle.call_log.specs.declared.kinds.Kind.TheVariants as kinds
 
 -- ---- the table of lines
 
@@ -243,11 +105,6 @@ line_of (entries.Event driver number bytes taken) = (kinds.Event, (driver.0, (nu
 -- the fields of a kind, and the kind before them
 abbrev pub read_fields : Kind → List ℕ → Read Line
 read_fields k bytes = and_then ((shape k).code.read bytes) (λ y rest. Some ((k, y), rest))
-
--- a breach's rule is 1 to 14
-abbrev pub HasRule : Cause → Type 0
-HasRule (causes.Breach n) = (1 ≤ n.0) × (n.0 ≤ 14)
-HasRule _ = Unit {0}
 
 -- an import's number is 1 to 64, a port's width 1 or 2, a breach's rule 1 to 14
 abbrev pub InRange : Entry → Type 0

@@ -1,18 +1,16 @@
 -- Logs, and how their bytes are read. The project's own.
 use Rattle.std.specs.Prelude.{ℕ, suc, ◌≡◌, ◌<◌, ◌≤◌, Some, ◌^◌, List, [], ◌∷◌, ◌++◌, length, Result, Ok, Err}
 use Rattle.std.specs.List.{AllByRecursion}
-use Rattle.call_log.specs.declared.line_refusal.LineRefusal.{LineRefusal}
-use Rattle.call_log.specs.declared.line_refusal.LineRefusal.TheVariants as line_refusals
+use Rattle.log_fields.specs.declared.line_refusal.LineRefusal.{LineRefusal}
+use Rattle.log_fields.specs.declared.line_refusal.LineRefusal.TheVariants as line_refusals
 use Rattle.call_log.specs.declared.entry.Entry.{Entry}
 use Rattle.call_log.specs.declared.refusal.LogRefusal.{LogRefusal}
 use Rattle.call_log.specs.declared.refusal.LogRefusal.TheVariants as refusals
-use Rattle.call_log.specs.declared.entry.Handler.{Handler}
-use Rattle.call_log.specs.declared.entry.FaultKind.{FaultKind}
-use Rattle.call_log.specs.declared.names.Kind.{Kind}
-use Rattle.call_log.specs.declared.names.CauseKind.{CauseKind}
-use Rattle.call_log.specs.declared.names.ConditionKind.{ConditionKind}
-use Rattle.call_log.specs.Codes.{find}
-use Rattle.call_log.specs.Names.{kind_name, kinds_all, handler_name, handlers_all, fault_name, faults_all, import_name, imports_all, cause_name, causes_all, what_name, whats_all}
+use Rattle.call_log.specs.declared.kinds.Kind.{Kind}
+use Rattle.log_fields.specs.Codes.{find}
+use Rattle.log_fields.specs.Exact.{ArePrinted}
+use Rattle.call_log.specs.Kinds.{kind_name, kinds_all}
+use Rattle.call_log.specs.Held.{IsHeld}
 use Rattle.call_log.specs.Lines.{Line, line, line_of, text_of, log_text, InRange}
 
 -- a log: its entries, and how many more can be appended without memory
@@ -76,11 +74,15 @@ ReadsBack bytes r = (es : List Entry) → AllFit es → bytes ≡ log_text es �
 abbrev pub OneEntryALine : Type 0
 OneEntryALine = (e f : Entry) → Fits e → Fits f → text_of e ≡ text_of f → e ≡ f
 
--- each name stands once in its table, at what it names
-pub record NamesAreFound : Type 0 where
-  pub kinds : (k : Kind) → find kind_name kinds_all (kind_name k) ≡ Some k
-  pub handlers : (h : Handler) → find handler_name handlers_all (handler_name h) ≡ Some h
-  pub faults : (f : FaultKind) → find fault_name faults_all (fault_name f) ≡ Some f
-  pub causes : (c : CauseKind) → find cause_name causes_all (cause_name c) ≡ Some c
-  pub conditions : (w : ConditionKind) → find what_name whats_all (what_name w) ≡ Some w
-  pub imports : (n : ℕ) → 1 ≤ n → n ≤ 64 → find import_name imports_all (import_name n) ≡ Some n
+-- each kind is found by its name
+abbrev pub KindsAreFound : Type 0
+KindsAreFound = (k : Kind) → find kind_name kinds_all (kind_name k) ≡ Some k
+
+-- no byte of an entry's text is a control code of ASCII, so none is LF, and a line ends at its first LF
+abbrev pub NoTextHoldsLf : Type 0
+NoTextHoldsLf = (e : Entry) → Fits e → ArePrinted (text_of e)
+
+-- An entry that its types hold, with its import's number, its port's width and its rule in their ranges, is one whose line is read: so the
+-- log of the text of any such entries is those entries (`ReadsBack`).
+abbrev pub HeldEntriesFit : Type 0
+HeldEntriesFit = (e : Entry) → IsHeld e → InRange e → Fits e

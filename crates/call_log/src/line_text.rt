@@ -2,21 +2,22 @@
 
 ghost use Rattle.std.specs.Prelude.{◌≡◌, ◌++◌, ◌∷◌, ◌≤◌, [], IfOk, OnOk, map};
 ghost use Rattle.std.specs.Option.{option_map};
-ghost use Rattle.call_log.specs.Lines.{line, write_of, flag_of, question_of, cause_of, what_of, text_of, InRange};
-ghost use Rattle.call_log.specs.declared.names.Kind.TheVariants as kinds;
+ghost use Rattle.log_fields.specs.Fields.{write_of, flag_of, question_of, cause_of, what_of};
+ghost use Rattle.call_log.specs.Lines.{line, text_of, InRange};
+ghost use Rattle.call_log.specs.declared.kinds.Kind.TheVariants as kinds;
 
-use crate::entry::{Cause, Condition, Direction, Entry, FaultKind, Handler, Question};
-use crate::field_text::{
+use crate::entry::Entry;
+use log_fields::field_text::{
     adapter_or_none, byte_string, cause, direction, flag, holders, name, number, port_number,
     question, what, word, words, writes,
 };
-use crate::names::{fault_name, handler_name, import_name};
-use crate::write::Write;
+use log_fields::names::{fault_name, handler_name, import_name};
+use log_fields::{Cause, Condition, Direction, FaultKind, Handler, Question, Write};
 use nd_base::{AdapterNo, BindingNo, Bytes, OutOfMemory};
 use std::alloc::Global;
 
 /// Puts a `bind` line, without its LF.
-#[tactic(auto, unfolding(crate::specs::Lines::line, crate::specs::Names::kind_name, crate::specs::Lines::small))]
+#[tactic(auto, unfolding(crate::specs::Lines::line, crate::specs::Kinds::kind_name, log_fields::specs::Fields::small))]
 fn bind_line(out: &mut Bytes, driver: u8, at: u8) -> Result<(), OutOfMemory>
     ensures { OnOk result (out.new ≡ out.old ++ line.text (kinds.Bind, (driver, at))) }
 {
@@ -26,7 +27,7 @@ fn bind_line(out: &mut Bytes, driver: u8, at: u8) -> Result<(), OutOfMemory>
 }
 
 /// Puts a `unbind` line, without its LF.
-#[tactic(auto, unfolding(crate::specs::Lines::line, crate::specs::Names::kind_name, crate::specs::Lines::small))]
+#[tactic(auto, unfolding(crate::specs::Lines::line, crate::specs::Kinds::kind_name, log_fields::specs::Fields::small))]
 fn unbind_line(out: &mut Bytes, driver: u8) -> Result<(), OutOfMemory>
     ensures { OnOk result (out.new ≡ out.old ++ line.text (kinds.Unbind, driver)) }
 {
@@ -35,7 +36,7 @@ fn unbind_line(out: &mut Bytes, driver: u8) -> Result<(), OutOfMemory>
 }
 
 /// Puts a `quiet` line, without its LF.
-#[tactic(auto, unfolding(crate::specs::Lines::line, crate::specs::Names::kind_name, crate::specs::Lines::small))]
+#[tactic(auto, unfolding(crate::specs::Lines::line, crate::specs::Kinds::kind_name, log_fields::specs::Fields::small))]
 fn quiet_line(out: &mut Bytes, driver: u8) -> Result<(), OutOfMemory>
     ensures { OnOk result (out.new ≡ out.old ++ line.text (kinds.Quiet, driver)) }
 {
@@ -44,7 +45,7 @@ fn quiet_line(out: &mut Bytes, driver: u8) -> Result<(), OutOfMemory>
 }
 
 /// Puts a `done` line, without its LF.
-#[tactic(auto, unfolding(crate::specs::Lines::line, crate::specs::Names::kind_name, crate::specs::Lines::small))]
+#[tactic(auto, unfolding(crate::specs::Lines::line, crate::specs::Kinds::kind_name, log_fields::specs::Fields::small))]
 fn done_line(out: &mut Bytes, driver: u8) -> Result<(), OutOfMemory>
     ensures { OnOk result (out.new ≡ out.old ++ line.text (kinds.Done, driver)) }
 {
@@ -53,7 +54,7 @@ fn done_line(out: &mut Bytes, driver: u8) -> Result<(), OutOfMemory>
 }
 
 /// Puts a `send` line, without its LF.
-#[tactic(auto, unfolding(crate::specs::Lines::line, crate::specs::Names::kind_name, crate::specs::Lines::small, crate::specs::Lines::large))]
+#[tactic(auto, unfolding(crate::specs::Lines::line, crate::specs::Kinds::kind_name, log_fields::specs::Fields::small, log_fields::specs::Fields::large))]
 fn send_line(out: &mut Bytes, driver: u8, packet: u64, octets: &[u8]) -> Result<(), OutOfMemory>
     ensures { OnOk result (out.new ≡ out.old ++ line.text (kinds.Send, (driver, (packet, octets.now)))) }
 {
@@ -64,7 +65,7 @@ fn send_line(out: &mut Bytes, driver: u8, packet: u64, octets: &[u8]) -> Result<
 }
 
 /// Puts a `hand` line, without its LF.
-#[tactic(auto, unfolding(crate::specs::Lines::line, crate::specs::Names::kind_name, crate::specs::Lines::large))]
+#[tactic(auto, unfolding(crate::specs::Lines::line, crate::specs::Kinds::kind_name, log_fields::specs::Fields::large))]
 fn hand_line(out: &mut Bytes, packet: u64) -> Result<(), OutOfMemory>
     ensures { OnOk result (out.new ≡ out.old ++ line.text (kinds.Hand, packet)) }
 {
@@ -73,7 +74,7 @@ fn hand_line(out: &mut Bytes, packet: u64) -> Result<(), OutOfMemory>
 }
 
 /// Puts a `requeue` line, without its LF.
-#[tactic(auto, unfolding(crate::specs::Lines::line, crate::specs::Names::kind_name, crate::specs::Lines::large))]
+#[tactic(auto, unfolding(crate::specs::Lines::line, crate::specs::Kinds::kind_name, log_fields::specs::Fields::large))]
 fn requeue_line(out: &mut Bytes, packet: u64) -> Result<(), OutOfMemory>
     ensures { OnOk result (out.new ≡ out.old ++ line.text (kinds.Requeue, packet)) }
 {
@@ -82,7 +83,7 @@ fn requeue_line(out: &mut Bytes, packet: u64) -> Result<(), OutOfMemory>
 }
 
 /// Puts a `late` line, without its LF.
-#[tactic(auto, unfolding(crate::specs::Lines::line, crate::specs::Names::kind_name, crate::specs::Lines::large))]
+#[tactic(auto, unfolding(crate::specs::Lines::line, crate::specs::Kinds::kind_name, log_fields::specs::Fields::large))]
 fn late_line(out: &mut Bytes, packet: u64) -> Result<(), OutOfMemory>
     ensures { OnOk result (out.new ≡ out.old ++ line.text (kinds.Late, packet)) }
 {
@@ -91,7 +92,7 @@ fn late_line(out: &mut Bytes, packet: u64) -> Result<(), OutOfMemory>
 }
 
 /// Puts a `complete` line, without its LF.
-#[tactic(auto, unfolding(crate::specs::Lines::line, crate::specs::Names::kind_name, crate::specs::Lines::large))]
+#[tactic(auto, unfolding(crate::specs::Lines::line, crate::specs::Kinds::kind_name, log_fields::specs::Fields::large))]
 fn complete_line(out: &mut Bytes, packet: u64, status: u32) -> Result<(), OutOfMemory>
     ensures { OnOk result (out.new ≡ out.old ++ line.text (kinds.Complete, (packet, status))) }
 {
@@ -101,7 +102,7 @@ fn complete_line(out: &mut Bytes, packet: u64, status: u32) -> Result<(), OutOfM
 }
 
 /// Puts a `indicate` line, without its LF.
-#[tactic(auto, unfolding(crate::specs::Lines::line, crate::specs::Names::kind_name, crate::specs::Lines::small, crate::specs::Lines::large, crate::specs::Lines::flag))]
+#[tactic(auto, unfolding(crate::specs::Lines::line, crate::specs::Kinds::kind_name, log_fields::specs::Fields::small, log_fields::specs::Fields::large, log_fields::specs::Fields::flag))]
 fn indicate_line(
     out: &mut Bytes,
     at: u8,
@@ -121,7 +122,7 @@ fn indicate_line(
 }
 
 /// Puts a `return` line, without its LF.
-#[tactic(auto, unfolding(crate::specs::Lines::line, crate::specs::Names::kind_name, crate::specs::Lines::small, crate::specs::Lines::large))]
+#[tactic(auto, unfolding(crate::specs::Lines::line, crate::specs::Kinds::kind_name, log_fields::specs::Fields::small, log_fields::specs::Fields::large))]
 fn return_line(out: &mut Bytes, driver: u8, loan: u64) -> Result<(), OutOfMemory>
     ensures { OnOk result (out.new ≡ out.old ++ line.text (kinds.Return, (driver, loan))) }
 {
@@ -131,7 +132,7 @@ fn return_line(out: &mut Bytes, driver: u8, loan: u64) -> Result<(), OutOfMemory
 }
 
 /// Puts a `back` line, without its LF.
-#[tactic(auto, unfolding(crate::specs::Lines::line, crate::specs::Names::kind_name, crate::specs::Lines::large, crate::specs::Lines::flag))]
+#[tactic(auto, unfolding(crate::specs::Lines::line, crate::specs::Kinds::kind_name, log_fields::specs::Fields::large, log_fields::specs::Fields::flag))]
 fn back_line(out: &mut Bytes, loan: u64, failed: bool) -> Result<(), OutOfMemory>
     ensures { OnOk result (out.new ≡ out.old ++ line.text (kinds.Back, (loan, flag_of failed))) }
 {
@@ -141,7 +142,7 @@ fn back_line(out: &mut Bytes, loan: u64, failed: bool) -> Result<(), OutOfMemory
 }
 
 /// Puts a `ask` line, without its LF.
-#[tactic(auto, unfolding(crate::specs::Lines::line, crate::specs::Names::kind_name, crate::specs::Lines::small, crate::specs::Lines::large))]
+#[tactic(auto, unfolding(crate::specs::Lines::line, crate::specs::Kinds::kind_name, log_fields::specs::Fields::small, log_fields::specs::Fields::large))]
 fn ask_line(out: &mut Bytes, driver: u8, request: u64, asked: &Question) -> Result<(), OutOfMemory>
     ensures { OnOk result (out.new ≡ out.old ++ line.text (kinds.Ask, (driver, (request, question_of asked.now)))) }
 {
@@ -152,7 +153,7 @@ fn ask_line(out: &mut Bytes, driver: u8, request: u64, asked: &Question) -> Resu
 }
 
 /// Puts a `handask` line, without its LF.
-#[tactic(auto, unfolding(crate::specs::Lines::line, crate::specs::Names::kind_name, crate::specs::Lines::large))]
+#[tactic(auto, unfolding(crate::specs::Lines::line, crate::specs::Kinds::kind_name, log_fields::specs::Fields::large))]
 fn hand_ask_line(out: &mut Bytes, request: u64) -> Result<(), OutOfMemory>
     ensures { OnOk result (out.new ≡ out.old ++ line.text (kinds.HandAsk, request)) }
 {
@@ -161,7 +162,7 @@ fn hand_ask_line(out: &mut Bytes, request: u64) -> Result<(), OutOfMemory>
 }
 
 /// Puts a `answer` line, without its LF.
-#[tactic(auto, unfolding(crate::specs::Lines::line, crate::specs::Names::kind_name, crate::specs::Lines::large))]
+#[tactic(auto, unfolding(crate::specs::Lines::line, crate::specs::Kinds::kind_name, log_fields::specs::Fields::large))]
 fn answer_line(out: &mut Bytes, request: u64, status: u32, octets: &[u8]) -> Result<(), OutOfMemory>
     ensures { OnOk result (out.new ≡ out.old ++ line.text (kinds.Answer, (request, (status, octets.now)))) }
 {
@@ -172,7 +173,7 @@ fn answer_line(out: &mut Bytes, request: u64, status: u32, octets: &[u8]) -> Res
 }
 
 /// Puts a `enter` line, without its LF.
-#[tactic(auto, unfolding(crate::specs::Lines::line, crate::specs::Names::kind_name, crate::specs::Lines::small))]
+#[tactic(auto, unfolding(crate::specs::Lines::line, crate::specs::Kinds::kind_name, log_fields::specs::Fields::small))]
 fn enter_line(
     out: &mut Bytes,
     at: Option<AdapterNo>,
@@ -192,7 +193,7 @@ fn enter_line(
 }
 
 /// Puts a `leave` line, without its LF.
-#[tactic(auto, unfolding(crate::specs::Lines::line, crate::specs::Names::kind_name, crate::specs::Lines::small))]
+#[tactic(auto, unfolding(crate::specs::Lines::line, crate::specs::Kinds::kind_name, log_fields::specs::Fields::small))]
 fn leave_line(out: &mut Bytes, context: u8, eax: u32) -> Result<(), OutOfMemory>
     ensures { OnOk result (out.new ≡ out.old ++ line.text (kinds.Leave, (context, eax))) }
 {
@@ -202,7 +203,7 @@ fn leave_line(out: &mut Bytes, context: u8, eax: u32) -> Result<(), OutOfMemory>
 }
 
 /// Puts a `turn` line, without its LF.
-#[tactic(auto, unfolding(crate::specs::Lines::line, crate::specs::Names::kind_name, crate::specs::Lines::small, crate::specs::Lines::large))]
+#[tactic(auto, unfolding(crate::specs::Lines::line, crate::specs::Kinds::kind_name, log_fields::specs::Fields::small, log_fields::specs::Fields::large))]
 fn turn_line(out: &mut Bytes, context: u8, count: u64) -> Result<(), OutOfMemory>
     ensures { OnOk result (out.new ≡ out.old ++ line.text (kinds.Turn, (context, count))) }
 {
@@ -212,7 +213,7 @@ fn turn_line(out: &mut Bytes, context: u8, count: u64) -> Result<(), OutOfMemory
 }
 
 /// Puts a `call` line, without its LF.
-#[tactic(auto, unfolding(crate::specs::Lines::line, crate::specs::Names::kind_name, crate::specs::Lines::small))]
+#[tactic(auto, unfolding(crate::specs::Lines::line, crate::specs::Kinds::kind_name, log_fields::specs::Fields::small))]
 fn call_line(out: &mut Bytes, context: u8, import: u8, arguments: &[u32]) -> Result<(), OutOfMemory>
     requires { (1 ≤ import) × (import ≤ 64) }
     ensures { OnOk result (out.new ≡ out.old ++ line.text (kinds.Call, (context, (import, arguments.now)))) }
@@ -224,7 +225,7 @@ fn call_line(out: &mut Bytes, context: u8, import: u8, arguments: &[u32]) -> Res
 }
 
 /// Puts a `reply` line, without its LF.
-#[tactic(auto, unfolding(crate::specs::Lines::line, crate::specs::Names::kind_name, crate::specs::Lines::small))]
+#[tactic(auto, unfolding(crate::specs::Lines::line, crate::specs::Kinds::kind_name, log_fields::specs::Fields::small))]
 fn reply_line(out: &mut Bytes, context: u8, eax: u32, written: &[Write]) -> Result<(), OutOfMemory>
     ensures { OnOk result (out.new ≡ out.old ++ line.text (kinds.Reply, (context, (eax, map write_of written.now)))) }
 {
@@ -235,7 +236,7 @@ fn reply_line(out: &mut Bytes, context: u8, eax: u32, written: &[Write]) -> Resu
 }
 
 /// Puts a `spin` line, without its LF.
-#[tactic(auto, unfolding(crate::specs::Lines::line, crate::specs::Names::kind_name, crate::specs::Lines::small))]
+#[tactic(auto, unfolding(crate::specs::Lines::line, crate::specs::Kinds::kind_name, log_fields::specs::Fields::small))]
 fn spin_line(out: &mut Bytes, context: u8, lock: u32) -> Result<(), OutOfMemory>
     ensures { OnOk result (out.new ≡ out.old ++ line.text (kinds.Spin, (context, lock))) }
 {
@@ -245,7 +246,7 @@ fn spin_line(out: &mut Bytes, context: u8, lock: u32) -> Result<(), OutOfMemory>
 }
 
 /// Puts a `port` line, without its LF.
-#[tactic(auto, unfolding(crate::specs::Lines::line, crate::specs::Names::kind_name, crate::specs::Lines::small, crate::specs::Lines::width))]
+#[tactic(auto, unfolding(crate::specs::Lines::line, crate::specs::Kinds::kind_name, log_fields::specs::Fields::small, log_fields::specs::Fields::width))]
 fn port_line(
     out: &mut Bytes,
     at: u8,
@@ -265,7 +266,7 @@ fn port_line(
 }
 
 /// Puts a `wirein` line, without its LF.
-#[tactic(auto, unfolding(crate::specs::Lines::line, crate::specs::Names::kind_name, crate::specs::Lines::large))]
+#[tactic(auto, unfolding(crate::specs::Lines::line, crate::specs::Kinds::kind_name, log_fields::specs::Fields::large))]
 fn wire_in_line(out: &mut Bytes, frame: u64) -> Result<(), OutOfMemory>
     ensures { OnOk result (out.new ≡ out.old ++ line.text (kinds.WireIn, frame)) }
 {
@@ -274,7 +275,7 @@ fn wire_in_line(out: &mut Bytes, frame: u64) -> Result<(), OutOfMemory>
 }
 
 /// Puts a `wireout` line, without its LF.
-#[tactic(auto, unfolding(crate::specs::Lines::line, crate::specs::Names::kind_name, crate::specs::Lines::small))]
+#[tactic(auto, unfolding(crate::specs::Lines::line, crate::specs::Kinds::kind_name, log_fields::specs::Fields::small))]
 fn wire_out_line(out: &mut Bytes, at: u8, octets: &[u8]) -> Result<(), OutOfMemory>
     ensures { OnOk result (out.new ≡ out.old ++ line.text (kinds.WireOut, (at, octets.now))) }
 {
@@ -284,7 +285,7 @@ fn wire_out_line(out: &mut Bytes, at: u8, octets: &[u8]) -> Result<(), OutOfMemo
 }
 
 /// Puts a `time` line, without its LF.
-#[tactic(auto, unfolding(crate::specs::Lines::line, crate::specs::Names::kind_name, crate::specs::Lines::large))]
+#[tactic(auto, unfolding(crate::specs::Lines::line, crate::specs::Kinds::kind_name, log_fields::specs::Fields::large))]
 fn time_line(out: &mut Bytes, clock: u64) -> Result<(), OutOfMemory>
     ensures { OnOk result (out.new ≡ out.old ++ line.text (kinds.Time, clock)) }
 {
@@ -293,7 +294,7 @@ fn time_line(out: &mut Bytes, clock: u64) -> Result<(), OutOfMemory>
 }
 
 /// Puts a `resetbegin` line, without its LF.
-#[tactic(auto, unfolding(crate::specs::Lines::line, crate::specs::Names::kind_name, crate::specs::Lines::small))]
+#[tactic(auto, unfolding(crate::specs::Lines::line, crate::specs::Kinds::kind_name, log_fields::specs::Fields::small))]
 fn reset_begin_line(out: &mut Bytes, at: u8) -> Result<(), OutOfMemory>
     ensures { OnOk result (out.new ≡ out.old ++ line.text (kinds.ResetBegin, at)) }
 {
@@ -302,7 +303,7 @@ fn reset_begin_line(out: &mut Bytes, at: u8) -> Result<(), OutOfMemory>
 }
 
 /// Puts a `resetend` line, without its LF.
-#[tactic(auto, unfolding(crate::specs::Lines::line, crate::specs::Names::kind_name, crate::specs::Lines::small))]
+#[tactic(auto, unfolding(crate::specs::Lines::line, crate::specs::Kinds::kind_name, log_fields::specs::Fields::small))]
 fn reset_end_line(out: &mut Bytes, at: u8, status: u32) -> Result<(), OutOfMemory>
     ensures { OnOk result (out.new ≡ out.old ++ line.text (kinds.ResetEnd, (at, status))) }
 {
@@ -312,7 +313,7 @@ fn reset_end_line(out: &mut Bytes, at: u8, status: u32) -> Result<(), OutOfMemor
 }
 
 /// Puts a `fault` line, without its LF.
-#[tactic(auto, unfolding(crate::specs::Lines::line, crate::specs::Names::kind_name, crate::specs::Lines::small))]
+#[tactic(auto, unfolding(crate::specs::Lines::line, crate::specs::Kinds::kind_name, log_fields::specs::Fields::small))]
 fn fault_line(out: &mut Bytes, context: u8, why: FaultKind, address: u32) -> Result<(), OutOfMemory>
     ensures { OnOk result (out.new ≡ out.old ++ line.text (kinds.Fault, (context, (why, address)))) }
 {
@@ -323,7 +324,7 @@ fn fault_line(out: &mut Bytes, context: u8, why: FaultKind, address: u32) -> Res
 }
 
 /// Puts a `stop` line, without its LF.
-#[tactic(auto, unfolding(crate::specs::Lines::line, crate::specs::Names::kind_name, crate::specs::Lines::small))]
+#[tactic(auto, unfolding(crate::specs::Lines::line, crate::specs::Kinds::kind_name, log_fields::specs::Fields::small))]
 fn stop_line(out: &mut Bytes, at: u8, by: Cause) -> Result<(), OutOfMemory>
     ensures { OnOk result (out.new ≡ out.old ++ line.text (kinds.Stop, (at, cause_of by))) }
 {
@@ -333,7 +334,7 @@ fn stop_line(out: &mut Bytes, at: u8, by: Cause) -> Result<(), OutOfMemory>
 }
 
 /// Puts a `await` line, without its LF.
-#[tactic(auto, unfolding(crate::specs::Lines::line, crate::specs::Names::kind_name, crate::specs::Lines::small))]
+#[tactic(auto, unfolding(crate::specs::Lines::line, crate::specs::Kinds::kind_name, log_fields::specs::Fields::small))]
 fn await_line(out: &mut Bytes, driver: u8, until: Condition) -> Result<(), OutOfMemory>
     ensures { OnOk result (out.new ≡ out.old ++ line.text (kinds.Await, (driver, what_of until))) }
 {
@@ -343,7 +344,7 @@ fn await_line(out: &mut Bytes, driver: u8, until: Condition) -> Result<(), OutOf
 }
 
 /// Puts a `tag` line, without its LF.
-#[tactic(auto, unfolding(crate::specs::Lines::line, crate::specs::Names::kind_name, crate::specs::Lines::large, crate::specs::Lines::medium))]
+#[tactic(auto, unfolding(crate::specs::Lines::line, crate::specs::Kinds::kind_name, log_fields::specs::Fields::large, log_fields::specs::Fields::medium))]
 fn tag_line(out: &mut Bytes, packet: u64, id: u32) -> Result<(), OutOfMemory>
     ensures { OnOk result (out.new ≡ out.old ++ line.text (kinds.Tag, (packet, id))) }
 {
@@ -353,7 +354,7 @@ fn tag_line(out: &mut Bytes, packet: u64, id: u32) -> Result<(), OutOfMemory>
 }
 
 /// Puts a `cancel` line, without its LF.
-#[tactic(auto, unfolding(crate::specs::Lines::line, crate::specs::Names::kind_name, crate::specs::Lines::small, crate::specs::Lines::medium))]
+#[tactic(auto, unfolding(crate::specs::Lines::line, crate::specs::Kinds::kind_name, log_fields::specs::Fields::small, log_fields::specs::Fields::medium))]
 fn cancel_line(out: &mut Bytes, driver: u8, id: u32) -> Result<(), OutOfMemory>
     ensures { OnOk result (out.new ≡ out.old ++ line.text (kinds.Cancel, (driver, id))) }
 {
@@ -363,7 +364,7 @@ fn cancel_line(out: &mut Bytes, driver: u8, id: u32) -> Result<(), OutOfMemory>
 }
 
 /// Puts a `event` line, without its LF.
-#[tactic(auto, unfolding(crate::specs::Lines::line, crate::specs::Names::kind_name, crate::specs::Lines::small, crate::specs::Lines::medium, crate::specs::Lines::flag))]
+#[tactic(auto, unfolding(crate::specs::Lines::line, crate::specs::Kinds::kind_name, log_fields::specs::Fields::small, log_fields::specs::Fields::medium, log_fields::specs::Fields::flag))]
 fn event_line(
     out: &mut Bytes,
     driver: u8,

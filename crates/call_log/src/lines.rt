@@ -1,18 +1,18 @@
 //! Reading the fields of each kind of line.
 
 ghost use Rattle.std.specs.Prelude.{◌≡◌, Some};
-ghost use Rattle.call_log.specs.Codes.{Gives};
+ghost use Rattle.log_fields.specs.Codes.{Gives};
 ghost use Rattle.call_log.specs.Lines.{line, line_of, read_fields};
-ghost use Rattle.call_log.specs.declared.names.Kind.TheVariants as kinds;
+ghost use Rattle.call_log.specs.declared.kinds.Kind.TheVariants as kinds;
 
 use crate::entry::Entry;
-use crate::fields::{
+use crate::kinds::{Kind, find_kind};
+use log_fields::LineRefusal;
+use log_fields::fields::{
     adapter_or_none, blank, byte_string, cause, direction, fault_kind, flag, handler, holders,
     import, large, medium, name, question, small, what, width, words, writes,
 };
-use crate::line_refusal::LineRefusal;
-use crate::names::{Kind, find_kind};
-use crate::scalars::{octet, word};
+use log_fields::scalars::{octet, word};
 use nd_base::{AdapterNo, Addr, BindingNo, CtxNo, LoanNo, PacketNo, RequestNo, Status};
 use std::alloc::Global;
 

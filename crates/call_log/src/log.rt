@@ -2,13 +2,13 @@
 
 ghost use Rattle.std.specs.Prelude.{◌≡◌, ◌<◌, ◌-◌, [], ◌∷◌, ◌++◌, length, max, slice_get, option_copied, IfSome, OnOk, OnErr, IsTrue, ◌↔◌};
 ghost use Rattle.call_log.specs.Lines.{InRange};
-ghost use Rattle.call_log.specs.Logs.{State, LineGives, LogGives, ReadsBack, OneEntryALine, NamesAreFound};
+ghost use Rattle.call_log.specs.Logs.{State, LineGives, LogGives, ReadsBack, OneEntryALine, KindsAreFound, NoTextHoldsLf, HeldEntriesFit};
 
 use crate::entry::Entry;
-use crate::line_refusal::LineRefusal;
 use crate::lines::entry;
 use crate::refusal::LogRefusal;
-use crate::scalars::past;
+use log_fields::LineRefusal;
+use log_fields::scalars::past;
 use nd_base::OutOfMemory;
 use std::alloc::Global;
 use std::marker::Model;
@@ -162,15 +162,27 @@ pub fn read_log(alloc: Global, bytes: &[u8]) -> Result<Log, LogRefusal>
     read_lines(alloc, bytes)
 }
 
-/// Each kind, handler, import, fault, cause and condition is found by its name, so that an entry
-/// whose numbers are in their ranges is one whose line is read.
-#[tactic(auto, using(crate::proofs::Found::names_found))]
-pub fn names_are_found()
-    ensures { NamesAreFound }
+/// Each kind is found by its name.
+#[tactic(auto, using(crate::proofs::Found::kind_found))]
+pub fn kinds_are_found()
+    ensures { KindsAreFound }
 {}
 
 /// No line states two entries.
 #[tactic(auto, using(crate::proofs::Laws::one_entry))]
 pub fn one_entry_a_line()
     ensures { OneEntryALine }
+{}
+
+/// No text of an entry holds an LF, or another control code.
+#[tactic(auto, using(crate::proofs::Printed::no_lf))]
+pub fn no_text_holds_lf()
+    ensures { NoTextHoldsLf }
+{}
+
+/// An entry as its types hold it, whose import's number is 1 to 64, whose port's width is 1 or 2 and
+/// whose rule is 1 to 14, is one whose line is read: so the text of any log reads back.
+#[tactic(auto, using(crate::proofs::Held::held_fits))]
+pub fn held_entries_fit()
+    ensures { HeldEntriesFit }
 {}

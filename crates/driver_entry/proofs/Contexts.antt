@@ -5,7 +5,7 @@ use Rattle.nd_mem.specs.Space.{Space}
 use Rattle.nd_base.specs.declared.numbers.CtxNo.{CtxNo}
 use Rattle.ia32_step.specs.Registers.{Registers}
 use Rattle.ia32_step.specs.Machine.{Machine, machine}
-use Rattle.driver_entry.specs.declared.entries.Entry.TheVariants.{Enter, Turn, Fault, Leave as Leaving}
+use Rattle.call_log.specs.declared.entry.Entry.TheVariants.{Enter, Turn, Fault, Leave as Leaving}
 use Rattle.driver_entry.specs.Run.{State, Context, Unentered, Open, Ended, context_of, gone_on, OpenIn, ChangesItsOwn}
 
 -- an open context, and what holds of its machine
@@ -49,3 +49,4 @@ changes_its_own c s (Enter adapter x handler words writes) y other = get_set_oth
 changes_its_own c s (Turn x count) y other = gone_on_other s x y count (context_of s x) other
 changes_its_own c s (Leaving x eax) y other = get_set_other s.contexts x.0 y.0 Ended other
 changes_its_own c s (Fault x kind address) y other = get_set_other s.contexts x.0 y.0 Ended other
+changes_its_own c s _ y other = refl

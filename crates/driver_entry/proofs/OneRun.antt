@@ -8,9 +8,12 @@ use Rattle.nd_base.specs.declared.numbers.CtxNo.{CtxNo}
 use Rattle.nd_base.specs.declared.numbers.Slot.TheVariants as slot
 use Rattle.ia32_step.specs.Registers.{Registers}
 use Rattle.ia32_step.specs.Machine.{Machine, machine, Outcome, Trapped, Moved, Faulted, outcome}
-use Rattle.ia32_step.specs.declared.FaultKind.{FaultKind}
-use Rattle.driver_entry.specs.declared.entries.Entry.{Entry}
-use Rattle.driver_entry.specs.declared.entries.Entry.TheVariants.{Enter, Turn, Fault, Leave as Leaving}
+use Rattle.log_fields.specs.declared.field_values.FaultKind.{FaultKind}
+use Rattle.log_fields.specs.declared.field_values.Handler.{Handler}
+use Rattle.log_fields.specs.declared.write.Write.{Write}
+use Rattle.nd_base.specs.declared.numbers.AdapterNo.{AdapterNo}
+use Rattle.call_log.specs.declared.entry.Entry.{Entry}
+use Rattle.call_log.specs.declared.entry.Entry.TheVariants.{Enter, Turn, Fault, Leave as Leaving}
 use Rattle.driver_entry.specs.declared.session.Ending.{Ending}
 use Rattle.driver_entry.specs.declared.session.Ending.TheVariants.{Left, Faulting, Spent}
 use Rattle.guest_map.specs.Regions.{contexts}
@@ -112,6 +115,7 @@ sets c s (Turn x count) only meets =
     }
 sets c s (Leaving x eax) only meets = record { context = Ended; entered = λ e. cc; is = at_zero s _ x Ended (is_first s x _ only meets.leaves) refl }
 sets c s (Fault x kind address) only meets = record { context = Ended; entered = λ e. cc; is = at_zero s _ x Ended (is_first s x _ only meets.faults) refl }
+sets c s _ only meets = absurd meets
 
 only_first-after : (c : Inputs) (s : State) (e : Entry) → OnlyFirst s → Meets c s e → OnlyFirst (after c s e)
 only_first-after c s e only meets = let set = sets c s e only meets in only_first-set s (after c s e).contexts first_context set.context only refl set.is
@@ -134,43 +138,60 @@ unentered_or_open s x x' P only first unentered h =
     let open_one : Some Unentered ≡ Some (Open o.registers) = sym unentered ∙ ap (context_of s) same ∙ o.is in
     cc
 
--- in one state only one entry can stand
-meets_one : (c : Inputs) (s : State) (e e' : Entry) → OnlyFirst s → Meets c s e → Meets c s e' → e ≡ e'
-meets_one c s (Enter adapter x handler words writes) (Enter adapter' x' handler' words' writes') only one other =
+-- in one state only one entry can stand: beside an entry of each kind
+one_enter : (c : Inputs) (s : State) (adapter : Option AdapterNo) (x : CtxNo) (handler : Handler) (words : List ℕ) (writes : List Write) (e' : Entry) → OnlyFirst s → Meets c s (Enter adapter x handler words writes) → Meets c s e' → Enter adapter x handler words writes ≡ e'
+one_enter c s adapter x handler words writes (Enter adapter' x' handler' words' writes') only one other =
     let alone : handler ≡ handler' = one.alone ∙ sym other.alone in
     let unbound : adapter ≡ adapter' = one.unbound ∙ sym other.unbound in
     let first = same_context x x' one.first other.first in
     let given : words ≡ words' = one.given ∙ sym other.given in
     let beside : writes ≡ writes' = one.beside ∙ sym other.beside in
     cc
-meets_one c s (Enter adapter x handler words writes) (Turn x' count) only one other = absurd (unentered_or_open s x x' _ only one.first one.unentered other)
-meets_one c s (Enter adapter x handler words writes) (Leaving x' eax) only one other = absurd (unentered_or_open s x x' _ only one.first one.unentered other.leaves)
-meets_one c s (Enter adapter x handler words writes) (Fault x' kind address) only one other = absurd (unentered_or_open s x x' _ only one.first one.unentered other.faults)
-meets_one c s (Turn x count) (Enter adapter x' handler words writes) only one other = absurd (unentered_or_open s x' x _ only other.first other.unentered one)
-meets_one c s (Turn x count) (Turn x' count') only one other =
+one_enter c s adapter x handler words writes (Turn x' count) only one other = absurd (unentered_or_open s x x' _ only one.first one.unentered other)
+one_enter c s adapter x handler words writes (Leaving x' eax) only one other = absurd (unentered_or_open s x x' _ only one.first one.unentered other.leaves)
+one_enter c s adapter x handler words writes (Fault x' kind address) only one other = absurd (unentered_or_open s x x' _ only one.first one.unentered other.faults)
+one_enter c s adapter x handler words writes _ only one other = absurd other
+
+one_turn : (c : Inputs) (s : State) (x : CtxNo) (count : ℕ) (e' : Entry) → OnlyFirst s → Meets c s (Turn x count) → Meets c s e' → Turn x count ≡ e'
+one_turn c s x count (Enter adapter x' handler words writes) only one other = absurd (unentered_or_open s x' x _ only other.first other.unentered one)
+one_turn c s x count (Turn x' count') only one other =
     both s x x' _ _ (Turn x count ≡ Turn x' count') only one other (λ m same turn turn'. let number : count ≡ count' = turn_is_one c.budget s.charged count count' m turn turn' in cc)
-meets_one c s (Turn x count) (Leaving x' eax) only one other =
+one_turn c s x count (Leaving x' eax) only one other =
     absurd (both s x x' _ _ ⊥ only one other.leaves (λ m same turn leaves. moves_and_leaves (outcome m) (turn_moves c.budget s.charged count m turn) leaves.0))
-meets_one c s (Turn x count) (Fault x' kind address) only one other =
+one_turn c s x count (Fault x' kind address) only one other =
     absurd (both s x x' _ _ ⊥ only one other.faults (λ m same turn faults. moves_and_faults (outcome m) m.registers.eip kind address (turn_moves c.budget s.charged count m turn) faults))
-meets_one c s (Leaving x eax) (Enter adapter x' handler words writes) only one other = absurd (unentered_or_open s x' x _ only other.first other.unentered one.leaves)
-meets_one c s (Leaving x eax) (Turn x' count) only one other =
+one_turn c s x count _ only one other = absurd other
+
+one_leave : (c : Inputs) (s : State) (x : CtxNo) (eax : ℕ) (e' : Entry) → OnlyFirst s → Meets c s (Leaving x eax) → Meets c s e' → Leaving x eax ≡ e'
+one_leave c s x eax (Enter adapter x' handler words writes) only one other = absurd (unentered_or_open s x' x _ only other.first other.unentered one.leaves)
+one_leave c s x eax (Turn x' count) only one other =
     absurd (both s x' x _ _ ⊥ only other one.leaves (λ m same turn leaves. moves_and_leaves (outcome m) (turn_moves c.budget s.charged count m turn) leaves.0))
-meets_one c s (Leaving x eax) (Leaving x' eax') only one other =
+one_leave c s x eax (Leaving x' eax') only one other =
     both s x x' _ _ (Leaving x eax ≡ Leaving x' eax') only one.leaves other.leaves (λ m same leaves leaves'. let status : eax ≡ eax' = leaves.1 ∙ sym leaves'.1 in cc)
-meets_one c s (Leaving x eax) (Fault x' kind address) only one other =
+one_leave c s x eax (Fault x' kind address) only one other =
     absurd (both s x x' _ _ ⊥ only one.leaves other.faults (λ m same leaves faults. leaves_and_faults (outcome m) m.registers.eip kind address leaves.0 faults))
-meets_one c s (Fault x kind address) (Enter adapter x' handler words writes) only one other = absurd (unentered_or_open s x' x _ only other.first other.unentered one.faults)
-meets_one c s (Fault x kind address) (Turn x' count) only one other =
+one_leave c s x eax _ only one other = absurd other
+
+one_fault : (c : Inputs) (s : State) (x : CtxNo) (kind : FaultKind) (address : Addr) (e' : Entry) → OnlyFirst s → Meets c s (Fault x kind address) → Meets c s e' → Fault x kind address ≡ e'
+one_fault c s x kind address (Enter adapter x' handler words writes) only one other = absurd (unentered_or_open s x' x _ only other.first other.unentered one.faults)
+one_fault c s x kind address (Turn x' count) only one other =
     absurd (both s x' x _ _ ⊥ only other one.faults (λ m same turn faults. moves_and_faults (outcome m) m.registers.eip kind address (turn_moves c.budget s.charged count m turn) faults))
-meets_one c s (Fault x kind address) (Leaving x' eax) only one other =
+one_fault c s x kind address (Leaving x' eax) only one other =
     absurd (both s x' x _ _ ⊥ only other.leaves one.faults (λ m same leaves faults. leaves_and_faults (outcome m) m.registers.eip kind address leaves.0 faults))
-meets_one c s (Fault x kind address) (Fault x' kind' address') only one other =
+one_fault c s x kind address (Fault x' kind' address') only one other =
     both s x x' _ _ (Fault x kind address ≡ Fault x' kind' address') only one.faults other.faults (λ m same faults faults'.
     let alike = fault_is_one (outcome m) m.registers.eip kind kind' address address' faults faults' in
     let same_kind : kind ≡ kind' = alike.0 in
     let same_place : address ≡ address' = alike.1 in
     cc)
+one_fault c s x kind address _ only one other = absurd other
+
+meets_one : (c : Inputs) (s : State) (e e' : Entry) → OnlyFirst s → Meets c s e → Meets c s e' → e ≡ e'
+meets_one c s (Enter adapter x handler words writes) e' only one other = one_enter c s adapter x handler words writes e' only one other
+meets_one c s (Turn x count) e' only one other = one_turn c s x count e' only one other
+meets_one c s (Leaving x eax) e' only one other = one_leave c s x eax e' only one other
+meets_one c s (Fault x kind address) e' only one other = one_fault c s x kind address e' only one other
+meets_one c s _ e' only one other = absurd one
 
 -- ---- two runs
 
@@ -237,6 +258,7 @@ none_behind_end c s (Enter adapter x handler words writes) only over meets = let
 none_behind_end c s (Turn x count) only over meets = over_or_open s x _ only over meets
 none_behind_end c s (Leaving x eax) only over meets = over_or_open s x _ only over meets.leaves
 none_behind_end c s (Fault x kind address) only over meets = over_or_open s x _ only over meets.faults
+none_behind_end c s _ only over meets = meets
 
 none_when_spent : (c : Inputs) (s : State) (e : Entry) → s.charged ≡ c.budget → IsEntered s → Meets c s e → ⊥
 none_when_spent c s (Enter adapter x handler words writes) spent entered meets = entered (unentered_here s x meets.first meets.unentered)
@@ -247,6 +269,7 @@ none_when_spent c s (Turn x count) spent entered meets =
     omega arith
 none_when_spent c s (Leaving x eax) spent entered meets = omega (arith, meets.unspent)
 none_when_spent c s (Fault x kind address) spent entered meets = omega (arith, meets.unspent)
+none_when_spent c s _ spent entered meets = meets
 
 -- a log whose last entry ends the first context
 ended_by : (c : Inputs) (log front : List Entry) (e : Entry) → log ≡ front ++ e ∷ [] → ((s : State) → (after c s e).contexts ≡ slice_set s.contexts 0 Ended) → IsOver (now_from c (start c) log)
@@ -302,6 +325,7 @@ last_spends c s (Enter adapter x handler words writes) meets spent = refl
 last_spends c s (Turn x count) meets spent = refl
 last_spends c s (Leaving x eax) meets spent = absurd (omega (arith, meets.unspent))
 last_spends c s (Fault x kind address) meets spent = absurd (omega (arith, meets.unspent))
+last_spends c s _ meets spent = refl
 
 run_spends : (c : Inputs) (s : State) (log : List Entry) → RunFrom c s log → s.charged + charged log ≡ c.budget → ending_of log ≡ Spent
 unfolding RunFrom

@@ -1,6 +1,6 @@
 -- A run goes on by one entry, and each front of a run is a run.
 use Rattle.std.proofs.Common.{◌≡◌, ℕ, ◌+◌, List, [], ◌∷◌, ◌++◌, refl, sym, ap, ◌∙◌, subst, arith, zero, suc, true, false}
-use Rattle.driver_entry.specs.declared.entries.Entry.{Entry}
+use Rattle.call_log.specs.declared.entry.Entry.{Entry}
 use Rattle.driver_entry.specs.Run.{Inputs, State, RunFrom, now_from, Reaches, GoesOn, Meets, after, start, charged, charge, turned, is_moved}
 use Rattle.ia32_step.specs.Machine.{Machine, moved, Outcome, Trapped, Moved, Faulted, answer_to}
 use Rattle.ia32_step.specs.declared.Stepped.{Stepped}

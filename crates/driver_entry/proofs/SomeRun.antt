@@ -6,12 +6,12 @@ use Rattle.nd_base.specs.declared.numbers.Slot.TheVariants as slot
 use Rattle.nd_base.specs.declared.numbers.Status.{Status}
 use Rattle.ia32_step.specs.Meaning.{general_of}
 use Rattle.ia32_step.specs.Machine.{Machine, Outcome, Trapped, Moved, Faulted, outcome}
-use Rattle.ia32_step.specs.declared.FaultKind.TheVariants.{Unmapped}
-use Rattle.driver_entry.specs.declared.entries.Entry.{Entry}
-use Rattle.driver_entry.specs.declared.entries.Entry.TheVariants.{Turn}
+use Rattle.log_fields.specs.declared.field_values.FaultKind.TheVariants.{Unmapped}
+use Rattle.call_log.specs.declared.entry.Entry.{Entry}
+use Rattle.call_log.specs.declared.entry.Entry.TheVariants.{Turn}
 use Rattle.driver_entry.specs.declared.session.Ending.{Ending}
 use Rattle.driver_entry.specs.declared.session.Ending.TheVariants.{Left, Faulting, Spent}
-use Rattle.driver_entry.specs.Run.{Inputs, Reaches, IsTurn, IsWhole, FaultsBy, first_context, turned, is_moved}
+use Rattle.driver_entry.specs.Run.{Inputs, Reaches, IsTurn, IsWhole, FaultsBy, first_context, logged_kind, turned, is_moved}
 use Rattle.driver_entry.proofs.Runs.{charged-now, turned_none}
 use Rattle.driver_entry.proofs.Turns.{open_state, turn_logged, fault_logged, leave_logged, enter_logged, entering, first_machine, not_empty}
 
@@ -48,7 +48,7 @@ stopped c log m n (Trapped (slot.Import i)) reached unspent is stays =
     let address : Addr = record { 0 = m.registers.eip } in
     (_, Faulting, (fault_logged c log _ m n Unmapped address reached unspent (subst (λ (x : Outcome). FaultsBy x m.registers.eip Unmapped address) (sym is) (refl, refl)) refl).0)
 stopped c log m n (Faulted kind address) reached unspent is stays =
-    (_, Faulting, (fault_logged c log _ m n kind address reached unspent (subst (λ (x : Outcome). FaultsBy x m.registers.eip kind address) (sym is) (refl, refl)) refl).0)
+    (_, Faulting, (fault_logged c log _ m n (logged_kind kind) address reached unspent (subst (λ (x : Outcome). FaultsBy x m.registers.eip (logged_kind kind) address) (sym is) (refl, refl)) refl).0)
 
 spent : (c : Inputs) (log : List Entry) (e : Entry) (m : Machine) (n : ℕ) → Reaches c (log ++ e ∷ []) (open_state m n) → n ≡ c.budget → HasRun c
 spent c log e m n reached all =

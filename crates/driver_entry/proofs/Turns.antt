@@ -3,17 +3,17 @@ use Rattle.std.proofs.Common.{◌≡◌, ◌≢◌, ℕ, ◌+◌, ◌-◌, ◌<�
 use Rattle.nd_base.specs.declared.numbers.Addr.{Addr}
 use Rattle.nd_base.specs.declared.numbers.Status.{Status}
 use Rattle.nd_base.specs.declared.numbers.Slot.TheVariants as slot
-use Rattle.ia32_step.specs.declared.FaultKind.{FaultKind}
+use Rattle.log_fields.specs.declared.field_values.FaultKind.{FaultKind}
 use Rattle.ia32_step.specs.Meaning.{general_of}
 use Rattle.ia32_step.specs.Machine.{Machine, machine, Trapped, outcome, answer_to}
 use Rattle.ia32_step.specs.declared.Stepped.{Stepped}
 use Rattle.ia32_step.specs.declared.Stepped.TheVariants.{Went}
 use Rattle.driver_entry.specs.declared.session.Ending.TheVariants.{Left, Faulting, Spent}
 use Rattle.driver_entry.specs.declared.session.Session.{Session}
-use Rattle.driver_entry.specs.declared.entries.Entry.{Entry}
-use Rattle.driver_entry.specs.declared.entries.Entry.TheVariants.{Enter, Turn, Fault, Leave as Leaving}
-use Rattle.driver_entry.specs.declared.entries.Handler.TheVariants.{DriverEntry}
-use Rattle.driver_entry.specs.Guest.{start_space, stack_pointer, driver_entry_words, handler_address, entered_memory, entered_registers}
+use Rattle.call_log.specs.declared.entry.Entry.{Entry}
+use Rattle.call_log.specs.declared.entry.Entry.TheVariants.{Enter, Turn, Fault, Leave as Leaving}
+use Rattle.log_fields.specs.declared.field_values.Handler.TheVariants.{DriverEntry}
+use Rattle.driver_entry.specs.Guest.{start_space, stack_pointer, driver_entry_words, entry_point, entered_memory, entered_registers}
 use Rattle.driver_entry.specs.Run.{Inputs, State, Unentered, Open, none_entered, start, context_of, after, now_from, Reaches, Run, Meets, IsTurn, IsWhole, FaultsBy, first_context, charged, turned, is_moved}
 use Rattle.driver_entry.specs.Session.{IsOpen, AddsEntries, HasBrokenOff, HasEnded, machine_of, state_of, only_first}
 use Rattle.driver_entry.proofs.Runs.{reaches_more, unmoved_by_other, turned_none, charged-now, reaches_none}
@@ -111,11 +111,11 @@ leave_logged c log more m n status reached unspent leaves eax is =
 -- the budget is spent
 pub spent_ended : (c : Inputs) (s : Session) → IsOpen c s → s.budget ≤ s.charged → HasEnded c s Spent
 spent_ended c s opened over =
-    let sum = charged-now c s.log.items _ opened.reached in
-    record { whole = record { run = opened.reached.run; entered = open_is_entered c s.log.items (machine_of s) s.charged opened.reached; ends = omega (arith, opened.within, opened.budget, sum) }; sum = sum; budget = opened.budget; front = s.log.items; reached = opened.reached; last = inl refl }
+    let sum = charged-now c s.log.entries _ opened.reached in
+    record { whole = record { run = opened.reached.run; entered = open_is_entered c s.log.entries (machine_of s) s.charged opened.reached; ends = omega (arith, opened.within, opened.budget, sum) }; sum = sum; budget = opened.budget; front = s.log.entries; reached = opened.reached; last = inl refl }
 
 -- memory is wanted where nothing more was logged or charged than stands in an open session
-pub broken_off : {A E : Type 0} (result : Result A E) (c : Inputs) (first mid last : Session) → AddsEntries first mid → Reaches c mid.log.items (state_of mid) → last.log.items ≡ mid.log.items → last.charged ≡ mid.charged
+pub broken_off : {A E : Type 0} (result : Result A E) (c : Inputs) (first mid last : Session) → AddsEntries first mid → Reaches c mid.log.entries (state_of mid) → last.log.entries ≡ mid.log.entries → last.charged ≡ mid.charged
     → OnErr result (HasBrokenOff c first last)
 broken_off (Ok value) c first mid last added reached log charges = tt
 broken_off (Err error) c first mid last added reached log charges = record {
@@ -125,7 +125,7 @@ broken_off (Err error) c first mid last added reached log charges = record {
 }
 
 pub adds_none : (s : Session) → AddsEntries s s
-adds_none s = ([], sym (append-nil s.log.items))
+adds_none s = ([], sym (append-nil s.log.entries))
 
 abbrev pub entering : Entry
 entering = Enter None first_context DriverEntry driver_entry_words []
@@ -133,7 +133,7 @@ entering = Enter None first_context DriverEntry driver_entry_words []
 -- the machine that DriverEntry begins with
 abbrev pub first_machine : Inputs → Machine
 first_machine c = machine
-    (entered_registers (stack_pointer first_context driver_entry_words) (handler_address c.image DriverEntry))
+    (entered_registers (stack_pointer first_context driver_entry_words) (entry_point c.image))
     (entered_memory (start_space c.image) first_context driver_entry_words [])
 
 -- the log of a context that was entered

@@ -15,9 +15,7 @@ use Rattle.guest_map.specs.Slots.{slot_address}
 use Rattle.pe_image.specs.Image.{ImageParts, image_cells}
 use Rattle.ia32_step.specs.Meaning.{ESP, with_general}
 use Rattle.ia32_step.specs.Registers.{Registers, at_reset}
-use Rattle.driver_entry.specs.declared.entries.Handler.{Handler}
-use Rattle.driver_entry.specs.declared.entries.Handler.TheVariants.{DriverEntry}
-use Rattle.driver_entry.specs.declared.write.Write.{Write}
+use Rattle.log_fields.specs.declared.write.Write.{Write}
 
 -- what stands at an address before the driver runs; no import is served yet, so none has an address
 abbrev pub start_cell : ImageParts → Cells
@@ -30,9 +28,9 @@ start_space image = mapped (start_cell image)
 abbrev pub driver_entry_words : List ℕ
 driver_entry_words = driver_object ∷ registry_path ∷ []
 
--- the address of a handler
-abbrev pub handler_address : ImageParts → Handler → ℕ
-handler_address image DriverEntry = image_base + image.entry
+-- the address of DriverEntry
+abbrev pub entry_point : ImageParts → ℕ
+entry_point image = image_base + image.entry
 
 -- what a handler finds at ESP: the address that it returns to, and its argument words
 abbrev pub frame_bytes : List ℕ → List ℕ

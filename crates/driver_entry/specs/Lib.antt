@@ -1,4 +1,3 @@
-pub mod Entries
 pub mod Guest
 pub mod Run
 pub mod Session

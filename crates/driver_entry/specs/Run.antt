@@ -12,15 +12,18 @@ use Rattle.ia32_step.specs.Registers.{Registers}
 use Rattle.ia32_step.specs.Meaning.{general_of}
 use Rattle.ia32_step.specs.Machine.{Machine, machine, Outcome, Trapped, Moved, Faulted, outcome, moved}
 use Rattle.ia32_step.specs.declared.FaultKind.{FaultKind}
-use Rattle.ia32_step.specs.declared.FaultKind.TheVariants.{Unmapped}
-use Rattle.driver_entry.specs.declared.write.Write.{Write}
-use Rattle.driver_entry.specs.declared.entries.Entry.{Entry}
-use Rattle.driver_entry.specs.declared.entries.Entry.TheVariants.{Enter, Turn, Leave as Leaving, Fault}
-use Rattle.driver_entry.specs.declared.entries.Handler.{Handler}
-use Rattle.driver_entry.specs.declared.entries.Handler.TheVariants.{DriverEntry}
+use Rattle.ia32_step.specs.declared.FaultKind.TheVariants as kinds
+use Rattle.log_fields.specs.declared.write.Write.{Write}
+use Rattle.log_fields.specs.declared.field_values.Handler.{Handler}
+use Rattle.log_fields.specs.declared.field_values.Handler.TheVariants.{DriverEntry}
+use Rattle.log_fields.specs.declared.field_values.FaultKind.{FaultKind as LoggedKind}
+use Rattle.log_fields.specs.declared.field_values.FaultKind.TheVariants as logged
+use Rattle.call_log.specs.declared.entry.Entry.{Entry}
+use Rattle.call_log.specs.declared.entry.Entry.TheVariants.{Enter, Turn, Leave as Leaving, Fault}
+use Rattle.call_log.specs.Parties.{of_context}
 use Rattle.driver_entry.specs.declared.session.Ending.{Ending}
 use Rattle.driver_entry.specs.declared.session.Ending.TheVariants.{Left, Faulting, Spent}
-use Rattle.driver_entry.specs.Guest.{driver_entry_words, handler_address, start_space, stack_pointer, entered_memory, entered_registers}
+use Rattle.driver_entry.specs.Guest.{driver_entry_words, entry_point, start_space, stack_pointer, entered_memory, entered_registers}
 
 -- what a run is given: the image, and how many instructions it may take
 pub record Inputs : Type 0 where
@@ -69,19 +72,20 @@ abbrev pub charged : List Entry → ℕ
 charged [] = 0
 charged (e ∷ log) = charge e + charged log
 
-abbrev pub entered : Inputs → State → CtxNo → Handler → List ℕ → List Write → State
-entered c s x handler words writes =
-    record (with_context s x (Open (entered_registers (stack_pointer x words) (handler_address c.image handler)))) { memory = entered_memory s.memory x words writes }
+abbrev pub entered : Inputs → State → CtxNo → List ℕ → List Write → State
+entered c s x words writes =
+    record (with_context s x (Open (entered_registers (stack_pointer x words) (entry_point c.image)))) { memory = entered_memory s.memory x words writes }
 
 abbrev pub gone_on : State → CtxNo → ℕ → Option Context → State
 gone_on s x count (Some (Open registers)) = let m = turned count (machine registers s.memory) in record (with_context s x (Open m.registers)) { memory = m.memory }
 gone_on s x count _ = s
 
 abbrev pub effect : Inputs → State → Entry → State
-effect c s (Enter adapter x handler words writes) = entered c s x handler words writes
+effect c s (Enter adapter x handler words writes) = entered c s x words writes
 effect c s (Turn x count) = gone_on s x count (context_of s x)
 effect c s (Leaving x eax) = with_context s x Ended
 effect c s (Fault x kind address) = with_context s x Ended
+effect c s _ = s
 
 abbrev pub after : Inputs → State → Entry → State
 after c s e = record (effect c s e) { charged = s.charged + charge e }
@@ -102,10 +106,19 @@ pub record IsTurn (budget before count : ℕ) (m : Machine) : Type 0 where
   pub moves : (k : ℕ) → k < count → is_moved (outcome (turned k m)) ≡ true
   pub ends : count < 64 → before + count < budget → is_moved (outcome (turned count m)) ≡ false
 
+-- how a log names what kind of fault an instruction made
+abbrev pub logged_kind : FaultKind → LoggedKind
+logged_kind kinds.DivideError = logged.Divide
+logged_kind kinds.Outside = logged.Outside
+logged_kind kinds.Unmapped = logged.Unmapped
+logged_kind kinds.NotReadable = logged.NotReadable
+logged_kind kinds.NotWritable = logged.NotWritable
+logged_kind kinds.NotExecutable = logged.NotExecutable
+
 -- The next instruction has no result, with this kind and address. No import is served yet, so at the slot of one nothing is mapped.
-abbrev pub FaultsBy : Outcome → ℕ → FaultKind → Addr → Type 0
-FaultsBy (Faulted kind address) eip kind' address' = (kind' ≡ kind) × (address' ≡ address)
-FaultsBy (Trapped (Import n)) eip kind' address' = (kind' ≡ Unmapped) × (address'.0 ≡ eip)
+abbrev pub FaultsBy : Outcome → ℕ → LoggedKind → Addr → Type 0
+FaultsBy (Faulted kind address) eip kind' address' = (kind' ≡ logged_kind kind) × (address' ≡ address)
+FaultsBy (Trapped (Import n)) eip kind' address' = (kind' ≡ logged.Unmapped) × (address'.0 ≡ eip)
 FaultsBy (Trapped Leave) eip kind' address' = ⊥
 FaultsBy (Moved m) eip kind' address' = ⊥
 
@@ -134,15 +147,17 @@ pub record MeetsLeave (c : Inputs) (s : State) (x : CtxNo) (eax : ℕ) : Type 0 
   pub unspent : s.charged < c.budget
   pub leaves : WhileOpen s x (λ m. (outcome m ≡ Trapped Leave) × (eax ≡ general_of m.registers 0))
 
-pub record MeetsFault (c : Inputs) (s : State) (x : CtxNo) (kind : FaultKind) (address : Addr) : Type 0 where
+pub record MeetsFault (c : Inputs) (s : State) (x : CtxNo) (kind : LoggedKind) (address : Addr) : Type 0 where
   pub unspent : s.charged < c.budget
   pub faults : WhileOpen s x (λ m. FaultsBy (outcome m) m.registers.eip kind address)
 
+-- entries of the other kinds stand in no run of DriverEntry alone
 abbrev pub Meets : Inputs → State → Entry → Type 0
 Meets c s (Enter adapter x handler words writes) = MeetsEnter s adapter x handler words writes
 Meets c s (Turn x count) = MeetsTurn c s x count
 Meets c s (Leaving x eax) = MeetsLeave c s x eax
 Meets c s (Fault x kind address) = MeetsFault c s x kind address
+Meets c s _ = ⊥
 
 -- ---- runs
 
@@ -176,16 +191,14 @@ pub record GoesOn : Type 0 where
   -- what was charged is the sum of what the entries cost
   pub charges : (c : Inputs) (log : List Entry) → (now c log).charged ≡ charged log
 
--- the context of an entry
-abbrev pub context_in : Entry → CtxNo
-context_in (Enter adapter x handler words writes) = x
-context_in (Turn x count) = x
-context_in (Leaving x eax) = x
-context_in (Fault x kind address) = x
+-- a context is that of an entry
+abbrev pub IsContextOf : Option CtxNo → CtxNo → Type 0
+IsContextOf (Some x) y = y.0 ≡ x.0
+IsContextOf None y = ⊥
 
 -- an entry leaves each context but its own as it is
 abbrev pub ChangesItsOwn : Type 0
-ChangesItsOwn = (c : Inputs) (s : State) (e : Entry) (y : CtxNo) → y.0 ≢ (context_in e).0 → context_of (after c s e) y ≡ context_of s y
+ChangesItsOwn = (c : Inputs) (s : State) (e : Entry) (y : CtxNo) → ¬ IsContextOf (of_context e) y → context_of (after c s e) y ≡ context_of s y
 
 -- ---- whole runs
 
@@ -196,7 +209,7 @@ first_context = record { 0 = 0 }
 -- How DriverEntry ended: with a leave of this status or with a fault as the log's last entry, or with the budget spent.
 abbrev pub EndsBy : Inputs → List Entry → Ending → Type 0
 EndsBy c log (Left status) = (front : List Entry) × (log ≡ front ++ Leaving first_context status.0 ∷ [])
-EndsBy c log Faulting = (front : List Entry) × (kind : FaultKind) × (address : Addr) × (log ≡ front ++ Fault first_context kind address ∷ [])
+EndsBy c log Faulting = (front : List Entry) × (kind : LoggedKind) × (address : Addr) × (log ≡ front ++ Fault first_context kind address ∷ [])
 EndsBy c log Spent = charged log ≡ c.budget
 
 -- a whole run of DriverEntry: it was entered, and has ended

@@ -1,7 +1,7 @@
 -- What the program keeps of a run of DriverEntry, as a state of the run's log.
 use Rattle.std.specs.Prelude.{◌≡◌, ◌<◌, ◌≤◌, ◌⊎◌, List, [], ◌∷◌, ◌++◌, slice_set}
 use Rattle.ia32_step.specs.Machine.{Machine, machine}
-use Rattle.driver_entry.specs.declared.entries.Entry.{Entry}
+use Rattle.call_log.specs.declared.entry.Entry.{Entry}
 use Rattle.driver_entry.specs.declared.session.Ending.{Ending}
 use Rattle.driver_entry.specs.declared.session.Session.{Session}
 use Rattle.driver_entry.specs.Run.{Inputs, Context, State, Open, none_entered, Run, Reaches, IsWhole, charged}
@@ -19,32 +19,32 @@ state_of s = record { memory = s.memory; contexts = only_first (Open s.regs); ch
 
 -- the log is a run so far, which leaves what is kept
 pub record IsOpen (c : Inputs) (s : Session) : Type 0 where
-  pub reached : Reaches c s.log.items (state_of s)
+  pub reached : Reaches c s.log.entries (state_of s)
   pub budget : s.budget ≡ c.budget
   pub within : s.charged ≤ c.budget
 
 -- and the budget is not spent
 pub record IsRunning (c : Inputs) (s : Session) : Type 0 where
-  pub reached : Reaches c s.log.items (state_of s)
+  pub reached : Reaches c s.log.entries (state_of s)
   pub budget : s.budget ≡ c.budget
   pub unspent : s.charged < c.budget
 
 -- entries were added to the log, or none
 abbrev pub AddsEntries : Session → Session → Type 0
-AddsEntries before after = (more : List Entry) × (after.log.items ≡ before.log.items ++ more)
+AddsEntries before after = (more : List Entry) × (after.log.entries ≡ before.log.entries ++ more)
 
 -- Memory was wanted: the log is a run still and holds what it held, and what is kept as charged is the sum of its entries.
 pub record HasBrokenOff (c : Inputs) (before after : Session) : Type 0 where
-  pub run : Run c after.log.items
+  pub run : Run c after.log.entries
   pub added : AddsEntries before after
-  pub sum : after.charged ≡ charged after.log.items
+  pub sum : after.charged ≡ charged after.log.entries
 
 -- The log is a whole run, and what is kept as charged is the sum of its entries. Registers and memory are those that stood before the log's last
 -- entry where that is a leave or a fault, and else those that the log leaves.
 pub record HasEnded (c : Inputs) (s : Session) (ending : Ending) : Type 0 where
-  pub whole : IsWhole c s.log.items ending
-  pub sum : s.charged ≡ charged s.log.items
+  pub whole : IsWhole c s.log.entries ending
+  pub sum : s.charged ≡ charged s.log.entries
   pub budget : s.budget ≡ c.budget
   pub front : List Entry
   pub reached : Reaches c front (state_of s)
-  pub last : (s.log.items ≡ front) ⊎ ((e : Entry) × (s.log.items ≡ front ++ e ∷ []))
+  pub last : (s.log.entries ≡ front) ⊎ ((e : Entry) × (s.log.entries ≡ front ++ e ∷ []))

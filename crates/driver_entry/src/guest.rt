@@ -7,10 +7,9 @@ ghost use Rattle.std.specs.Int.{to_le_bytes, w32};
 ghost use Rattle.nd_mem.specs.Space.{first_fault, put_from, Any};
 ghost use Rattle.guest_map.specs.Regions.{image_base};
 ghost use Rattle.pe_image.specs.Image.{image_cells};
-ghost use Rattle.driver_entry.specs.Guest.{driver_entry_words, handler_address, start_space, stack_pointer, entered_memory, entered_registers};
+ghost use Rattle.driver_entry.specs.Guest.{driver_entry_words, entry_point, start_space, stack_pointer, entered_memory, entered_registers};
 ghost use Rattle.driver_entry.specs.Run.{first_context};
 
-use crate::entries::Handler;
 use guest_map::{
     DRIVER_OBJECT, IMAGE_BASE, REGISTRY_PATH, map_regions, places_lie_in_regions,
     regions_are_blank, slot_address, stack,
@@ -28,7 +27,7 @@ pub const CONTEXT: CtxNo = CtxNo(0);
 pub const DRIVER_ENTRY_WORDS: [u32; 2] = [DRIVER_OBJECT, REGISTRY_PATH];
 
 /// The number of the stack pointer.
-const ESP: u8 = 4;
+const ESP: usize = 4;
 
 /// Maps the image into memory that has nothing yet.
 fn map_image(alloc: Global, image: &Image, memory: &mut Memory) -> Result<(), OutOfMemory>
@@ -109,11 +108,11 @@ pub fn entered_memory(alloc: Global, image: &Image) -> Result<Memory, OutOfMemor
 
 /// The registers that DriverEntry begins with.
 pub fn entered_registers(image: &Image) -> Regs
-    ensures { result ≡ entered_registers (stack_pointer first_context driver_entry_words) (handler_address image.now Handler.DriverEntry) }
+    ensures { result ≡ entered_registers (stack_pointer first_context driver_entry_words) (entry_point image.now) }
 {
     image.bounds();
     let mut regs = Regs::new();
-    regs.set(ESP, stack_pointer());
-    regs.set_eip(IMAGE_BASE.0 + image.entry());
+    regs.general[ESP] = stack_pointer();
+    regs.eip = IMAGE_BASE.0 + image.entry();
     regs
 }

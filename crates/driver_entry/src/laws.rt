@@ -3,8 +3,8 @@
 ghost use Rattle.std.specs.Prelude.{◌≡◌, ◌++◌, List};
 ghost use Rattle.driver_entry.specs.Run.{Inputs, Run, IsWhole, AreFronts, GoesOn, ChangesItsOwn, choices};
 
-use crate::entries::Entry;
 use crate::session::Ending;
+use call_log::Entry;
 
 /// Every front of a run is a run.
 pub fn fronts_of_runs_are_runs()

@@ -3,14 +3,12 @@
 ghost use Rattle.std.specs.Prelude.{◌≡◌, [], ◌∷◌, ◌≢◌, ℕ, ◌+◌, ◌<◌, ◌≤◌, true, false, OnOk, OnErr, IfOk, IfSome, IfNone, MatchResult};
 ghost use Rattle.ia32_step.specs.Machine.{machine, outcome, answer_to, Trapped};
 ghost use Rattle.driver_entry.specs.Guest.{driver_entry_words};
-ghost use Rattle.driver_entry.specs.Run.{FaultsBy, Inputs, first_context, turned, is_moved};
+ghost use Rattle.driver_entry.specs.Run.{FaultsBy, Inputs, first_context, logged_kind, turned, is_moved};
 ghost use Rattle.driver_entry.specs.Session.{machine_of, IsOpen, IsRunning, AddsEntries, HasBrokenOff, HasEnded};
 
-use crate::entries::{Entry, Handler};
 use crate::guest::{CONTEXT, DRIVER_ENTRY_WORDS, entered_memory, entered_registers};
-use crate::word_list::Words;
-use crate::write_list::Writes;
-use ia32_step::{FaultKind, Regs, Stepped, step};
+use call_log::{Entry, FaultKind, Handler, Log, Words, Writes};
+use ia32_step::{Regs, Stepped, step};
 use nd_base::{Addr, OutOfMemory, Slot, Status};
 use nd_mem::Memory;
 use pe_image::Image;
@@ -57,24 +55,45 @@ fn make_turn(regs: &mut Regs, memory: &mut Memory, most: u8) -> Turned
 }
 
 /// The number of the register that a status is returned in.
-const EAX: u8 = 0;
+const EAX: usize = 0;
 
 /// A turn ends at this many instructions.
 const TURN_LENGTH: u32 = 64;
 
-/// A log whose one entry enters DriverEntry.
-fn entered_log(alloc: Global) -> Result<Vec<Entry>, OutOfMemory>
-    ensures { IfOk result (λ log. log.items ≡ Entry.Enter None first_context Handler.DriverEntry driver_entry_words [] ∷ []) }
+/// How a log names what kind of fault an instruction made.
+fn logged_kind(kind: ia32_step::FaultKind) -> FaultKind
+    ensures { result ≡ logged_kind kind }
+{
+    match kind {
+        ia32_step::FaultKind::DivideError => FaultKind::Divide,
+        ia32_step::FaultKind::Outside => FaultKind::Outside,
+        ia32_step::FaultKind::Unmapped => FaultKind::Unmapped,
+        ia32_step::FaultKind::NotReadable => FaultKind::NotReadable,
+        ia32_step::FaultKind::NotWritable => FaultKind::NotWritable,
+        ia32_step::FaultKind::NotExecutable => FaultKind::NotExecutable,
+    }
+}
+
+/// The entry that enters DriverEntry.
+fn entering(alloc: Global) -> Result<Entry, OutOfMemory>
+    ensures { IfOk result (λ entry. entry ≡ Entry.Enter None first_context Handler.DriverEntry driver_entry_words []) }
 {
     let words = Words::copy(alloc, &DRIVER_ENTRY_WORDS)?;
-    let mut log = Vec::new(alloc);
-    log.push(Entry::Enter {
+    Ok(Entry::Enter {
         adapter: None,
         context: CONTEXT,
         handler: Handler::DriverEntry,
         words,
         writes: Writes::new(alloc),
-    })?;
+    })
+}
+
+/// A log whose one entry enters DriverEntry.
+fn entered_log(alloc: Global) -> Result<Log, OutOfMemory>
+    ensures { IfOk result (λ log. log.entries ≡ Entry.Enter None first_context Handler.DriverEntry driver_entry_words [] ∷ []) }
+{
+    let mut log = Log::new(alloc);
+    log.push(entering(alloc)?)?;
     Ok(log)
 }
 
@@ -87,7 +106,7 @@ pub struct Session {
     pub budget: u32,
     /// How many it has taken.
     pub charged: u32,
-    pub log: Vec<Entry>,
+    pub log: Log,
 }
 
 impl Session {
@@ -117,7 +136,7 @@ impl Session {
         ensures last { IfOk result (λ last. last ≢ Stepped.Went → answer_to (outcome (machine_of self.new)) ≡ last) }
         ensures went { IfOk result (λ last. last ≡ Stepped.Went → self.old.charged < self.new.charged) }
         ensures added { OnOk result (AddsEntries self.old self.new) }
-        ensures unlogged { OnErr result (self.new.log.items ≡ self.old.log.items) }
+        ensures unlogged { OnErr result (self.new.log.entries ≡ self.old.log.entries) }
         ensures uncharged { OnErr result (self.new.charged ≡ self.old.charged) }
     {
         let most = (self.budget - self.charged).min(TURN_LENGTH) as u8;
@@ -139,7 +158,7 @@ impl Session {
         requires running { IsRunning inputs self.old }
         requires faults { FaultsBy (outcome (machine_of self.old)) self.old.regs.eip kind address }
         ensures ended { IfOk result (λ ending. HasEnded inputs self.new ending) }
-        ensures unlogged { OnErr result (self.new.log.items ≡ self.old.log.items) }
+        ensures unlogged { OnErr result (self.new.log.entries ≡ self.old.log.entries) }
         ensures uncharged { OnErr result (self.new.charged ≡ self.old.charged) }
     {
         self.log.push(Entry::Fault {
@@ -156,10 +175,10 @@ impl Session {
         requires running { IsRunning inputs self.old }
         requires leaves { outcome (machine_of self.old) ≡ Trapped Slot.Leave }
         ensures ended { IfOk result (λ ending. HasEnded inputs self.new ending) }
-        ensures unlogged { OnErr result (self.new.log.items ≡ self.old.log.items) }
+        ensures unlogged { OnErr result (self.new.log.entries ≡ self.old.log.entries) }
         ensures uncharged { OnErr result (self.new.charged ≡ self.old.charged) }
     {
-        let eax = self.regs.get(EAX);
+        let eax = self.regs.general[EAX];
         self.log.push(Entry::Leave {
             context: CONTEXT,
             eax,
@@ -185,10 +204,10 @@ impl Session {
             Stepped::Went => Ok(None),
             Stepped::Trap(Slot::Leave) => Ok(Some(self.leave()?)),
             Stepped::Trap(Slot::Import(_)) => {
-                let address = Addr(self.regs.eip());
+                let address = Addr(self.regs.eip);
                 Ok(Some(self.fault(FaultKind::Unmapped, address)?))
             }
-            Stepped::Fault(kind, address) => Ok(Some(self.fault(kind, address)?)),
+            Stepped::Fault(kind, address) => { Ok(Some(self.fault(logged_kind(kind), address)?)) }
         }
     }
 

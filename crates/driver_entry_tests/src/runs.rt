@@ -3,7 +3,9 @@
 ghost use Rattle.std.specs.Prelude.{◌≡◌, ◌<◌, []};
 ghost use Rattle.driver_entry.specs.Run.{Inputs};
 
-use driver_entry::{Ending, Session, text_of};
+use call_log::{Log, put_line};
+use driver_entry::{Ending, Session};
+use nd_base::Bytes;
 use pe_image::Image;
 use std::alloc::{AllocError, Global};
 
@@ -58,14 +60,22 @@ pub fn put_driver(file: &mut Vec<u8>, flags: u32, code: &[u8]) -> Result<(), All
 
 /// How DriverEntry of an image ends that has no imports, and how many instructions it took. Its
 /// log is put behind the text.
-pub fn run(alloc: Global, image: &Image, budget: u32, log: &mut String) -> Option<(Ending, u32)> {
+pub fn run(alloc: Global, image: &Image, budget: u32, log: &mut Bytes) -> Option<(Ending, u32)> {
     if budget == 0 || !image.imports().is_empty() {
         return None;
     }
     finished(alloc, image, budget, log)
 }
 
-fn finished(alloc: Global, image: &Image, budget: u32, log: &mut String) -> Option<(Ending, u32)>
+/// Puts the lines of a log behind the text.
+fn put_lines(log: &Log, text: &mut Bytes) -> Option<()> {
+    for i in 0..log.len() {
+        put_line(text, log.entry(i)?).ok()?;
+    }
+    Some(())
+}
+
+fn finished(alloc: Global, image: &Image, budget: u32, log: &mut Bytes) -> Option<(Ending, u32)>
     ghost inputs: { Inputs }
     requires given { inputs ≡ record { image = image.now; budget = budget } }
     requires some { 0 < budget }
@@ -73,7 +83,6 @@ fn finished(alloc: Global, image: &Image, budget: u32, log: &mut String) -> Opti
 {
     let mut session = Session::enter(alloc, image, budget).ok()?;
     let ending = session.finish().ok()?;
-    let text = text_of(alloc, &session.log).ok()?;
-    log.push_str(&text).ok()?;
+    put_lines(&session.log, log)?;
     Some((ending, session.charged))
 }

@@ -1,14 +1,13 @@
-//! Drivers that return, that spend their budget, and that fault; and the text of an entry with all
-//! that it may have.
+//! Drivers that return, that spend their budget, and that fault.
 
 use crate::runs::{READABLE, UNREADABLE, put_driver, run};
-use driver_entry::{Ending, Entry, Handler, Words, Write, Writes, text_of};
-use nd_base::{AdapterNo, Addr, Bytes, CtxNo, Status};
+use driver_entry::Ending;
+use nd_base::{Bytes, Status};
 use pe_image::Image;
 use std::alloc::Global;
 
 /// The line that each log begins with.
-const ENTER: &str = "enter - 0 driverentry e0000000,e0000008 -\n";
+const ENTER: &[u8] = b"enter - 0 driverentry e0000000,e0000008 -\n";
 
 /// A driver of this code ends so, with so many instructions, and its log is put behind the text.
 fn ends(
@@ -16,7 +15,7 @@ fn ends(
     flags: u32,
     code: &[u8],
     budget: u32,
-    log: &mut String,
+    log: &mut Bytes,
 ) -> Option<(Ending, u32)> {
     let mut file = Vec::new(alloc);
     put_driver(&mut file, flags, code).ok()?;
@@ -25,13 +24,14 @@ fn ends(
 }
 
 /// Whether the log is the line of the enter and then these lines.
-fn has_lines(log: &str, lines: &str) -> bool {
-    log.len() == ENTER.len() + lines.len() && log.starts_with(ENTER) && log.ends_with(lines)
+fn has_lines(log: &Bytes, lines: &[u8]) -> bool {
+    let text = log.as_slice();
+    text.len() == ENTER.len() + lines.len() && text.starts_with(ENTER) && text.ends_with(lines)
 }
 
 /// A driver of this code faults behind so many instructions, with this log behind its enter.
-fn faults(alloc: Global, flags: u32, code: &[u8], count: u32, lines: &str) -> bool {
-    let mut log = String::new(alloc);
+fn faults(alloc: Global, flags: u32, code: &[u8], count: u32, lines: &[u8]) -> bool {
+    let mut log = Bytes::new(alloc);
     ends(alloc, flags, code, 1000, &mut log) == Some((Ending::Faulting, count))
         && has_lines(&log, lines)
 }
@@ -39,42 +39,42 @@ fn faults(alloc: Global, flags: u32, code: &[u8], count: u32, lines: &str) -> bo
 /// Five is moved into EAX, minus five added, and eight bytes returned.
 #[test]
 fn a_driver_returns(rt: HostRuntime) {
-    let mut log = String::new(rt.alloc());
+    let mut log = Bytes::new(rt.alloc());
     let code = [0xB8, 5, 0, 0, 0, 0x83, 0xC0, 0xFB, 0xC2, 8, 0];
     let ending = ends(rt.alloc(), READABLE, &code, 4, &mut log);
     let holds = ending == Some((Ending::Left(Status(0)), 3))
-        && has_lines(&log, "turn 0 3\nleave 0 00000000\n");
+        && has_lines(&log, b"turn 0 3\nleave 0 00000000\n");
     assert!(rt; holds);
 }
 
 /// The budget is spent by the last instruction before the return's address is reached.
 #[test]
 fn a_driver_spends_its_budget_at_the_return(rt: HostRuntime) {
-    let mut log = String::new(rt.alloc());
+    let mut log = Bytes::new(rt.alloc());
     let code = [0xB8, 1, 0, 0, 0xC0, 0xC2, 8, 0];
     let spent = ends(rt.alloc(), READABLE, &code, 2, &mut log) == Some((Ending::Spent, 2))
-        && has_lines(&log, "turn 0 2\n");
+        && has_lines(&log, b"turn 0 2\n");
     assert!(rt; spent);
 }
 
 /// A jump to itself.
 #[test]
 fn a_driver_spends_its_budget(rt: HostRuntime) {
-    let mut log = String::new(rt.alloc());
+    let mut log = Bytes::new(rt.alloc());
     let ending = ends(rt.alloc(), READABLE, &[0xEB, 0xFE], 1_000_000, &mut log);
     // 15,625 turns of 64
     let holds = ending == Some((Ending::Spent, 1_000_000))
         && log.len() == ENTER.len() + 15_625 * 10
-        && log.ends_with("turn 0 64\nturn 0 64\n");
+        && log.as_slice().ends_with(b"turn 0 64\nturn 0 64\n");
     assert!(rt; holds);
 }
 
 #[test]
 fn the_last_turn_is_cut_by_the_budget(rt: HostRuntime) {
-    let mut log = String::new(rt.alloc());
+    let mut log = Bytes::new(rt.alloc());
     let ending = ends(rt.alloc(), READABLE, &[0xEB, 0xFE], 130, &mut log);
     let holds = ending == Some((Ending::Spent, 130))
-        && has_lines(&log, "turn 0 64\nturn 0 64\nturn 0 2\n");
+        && has_lines(&log, b"turn 0 64\nturn 0 64\nturn 0 2\n");
     assert!(rt; holds);
 }
 
@@ -86,7 +86,7 @@ fn a_driver_faults_outside(rt: HostRuntime) {
         READABLE,
         &[0xD9, 0xC0],
         0,
-        "fault 0 outside 80101000\n",
+        b"fault 0 outside 80101000\n",
     );
     assert!(rt; holds);
 }
@@ -100,7 +100,7 @@ fn a_driver_faults_where_its_code_ends(rt: HostRuntime) {
         READABLE,
         &code,
         1,
-        "turn 0 1\nfault 0 unmapped 80101010\n",
+        b"turn 0 1\nfault 0 unmapped 80101010\n",
     );
     assert!(rt; holds);
 }
@@ -114,7 +114,7 @@ fn a_driver_faults_unread(rt: HostRuntime) {
         UNREADABLE,
         &code,
         1,
-        "turn 0 1\nfault 0 notreadable 80101000\n",
+        b"turn 0 1\nfault 0 notreadable 80101000\n",
     );
     assert!(rt; holds);
 }
@@ -128,7 +128,7 @@ fn a_driver_faults_in_its_stack(rt: HostRuntime) {
         READABLE,
         &code,
         2,
-        "turn 0 2\nfault 0 notexecutable 82000000\n",
+        b"turn 0 2\nfault 0 notexecutable 82000000\n",
     );
     assert!(rt; holds);
 }
@@ -142,49 +142,7 @@ fn a_driver_faults_at_an_import(rt: HostRuntime) {
         READABLE,
         &code,
         2,
-        "turn 0 2\nfault 0 unmapped f0000010\n",
+        b"turn 0 2\nfault 0 unmapped f0000010\n",
     );
-    assert!(rt; holds);
-}
-
-/// Puts a write of these bytes behind the others.
-fn push_write(alloc: Global, writes: &mut Writes, at: u32, bytes: &[u8]) -> Option<()> {
-    let bytes = Bytes::copy(alloc, bytes).ok()?;
-    writes
-        .push(Write {
-            at: Addr(at),
-            bytes,
-        })
-        .ok()
-}
-
-/// An enter for adapter 3 in context 15, with no words and two writes.
-fn full_enter(alloc: Global) -> Option<Entry> {
-    let mut writes = Writes::new(alloc);
-    push_write(alloc, &mut writes, 0x8400_0000, &[])?;
-    push_write(alloc, &mut writes, 0x820F_8000, &[0, 0xFF, 0x1A])?;
-    Some(Entry::Enter {
-        adapter: Some(AdapterNo(3)),
-        context: CtxNo(15),
-        handler: Handler::DriverEntry,
-        words: Words::copy(alloc, &[]).ok()?,
-        writes,
-    })
-}
-
-/// Whether these entries have this text.
-fn has_text(alloc: Global, log: &[Entry], text: &str) -> bool {
-    text_of(alloc, log).is_ok_and(|found| found.as_str() == text)
-}
-
-#[test]
-fn an_enter_has_all_its_fields(rt: HostRuntime) {
-    let mut log = Vec::new(rt.alloc());
-    let pushed = match full_enter(rt.alloc()) {
-        Some(entry) => log.push(entry).is_ok(),
-        None => false,
-    };
-    let text = "enter 3 15 driverentry - 84000000:-,820f8000:00ff1a\n";
-    let holds = pushed && has_text(rt.alloc(), &log, text);
     assert!(rt; holds);
 }

@@ -1,3 +1,3 @@
+pub mod Sets
 pub mod Fetching
-pub mod Reading
 pub mod Steps

@@ -1,6 +1,13 @@
 pub mod Registers
-pub mod Seen
 pub mod State
-pub mod Grammar
+pub mod Operands
+pub mod Conditions
+pub mod Arithmetic
+pub mod Products
+pub mod Moves
+pub mod Stack
+pub mod Control
+pub mod Strings
+pub mod BitStrings
 pub mod Meaning
 pub mod Machine

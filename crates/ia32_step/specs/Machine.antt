@@ -1,37 +1,62 @@
 -- One step of a machine: the instruction at EIP is fetched, read and done, or there is a fault.
 -- (Intel SDM volume 1, "Instruction Pointer"; volume 3, "Exception and Interrupt Reference".)
-use Rattle.std.specs.Prelude.{ℕ, ◌≡◌, ◌+◌, ◌^◌, ◌<◌, List, ◌++◌, length, Option, None, Some}
-use Rattle.std.specs.List.{All}
+use Rattle.std.specs.Prelude.{ℕ, ◌≡◌, ◌+◌, List, ◌++◌, length, Option, None, Some, Result, Ok, Err}
 use Rattle.nd_base.specs.declared.numbers.Slot.{Slot}
 use Rattle.nd_mem.specs.declared.MemFault.{MemFault}
+use Rattle.nd_mem.specs.declared.MemFault.TheVariants as fault
 use Rattle.nd_mem.specs.Space.{Executing, fault_at, executable_run, bytes_from, address}
-use Rattle.ia32_step.specs.declared.grammar.Decoded.{Decoded}
-use Rattle.ia32_step.specs.declared.grammar.Decoded.TheVariants as read
+use Rattle.guest_map.specs.Slots.{slot_at}
+use Rattle.codes.specs.Exact.{AreBytes}
+use Rattle.codes.specs.Readings.{IsOutsideAt, IsUnfinished}
+use Rattle.ia32_decode.specs.Prefixes.{instruction}
+use Rattle.ia32_decode.specs.Decoding.{Spells, decoded}
+use Rattle.ia32_decode.specs.declared.instruction.Instr.{Instr}
+use Rattle.ia32_decode.specs.declared.decoding.Decoded.{Decoded}
+use Rattle.ia32_decode.specs.declared.decoding.Decoded.TheVariants as read
+use Rattle.ia32_step.specs.declared.effects.Stop.{Stop}
+use Rattle.ia32_step.specs.declared.effects.Stop.TheVariants as stop
 use Rattle.ia32_step.specs.declared.FaultKind.TheVariants as kind
 use Rattle.ia32_step.specs.declared.Stepped.{Stepped}
 use Rattle.ia32_step.specs.declared.Stepped.TheVariants.{Trap, Went, Fault}
 pub use Rattle.ia32_step.specs.State.{Machine, machine, Outcome, Trapped, Moved, Faulted}
 use Rattle.ia32_step.specs.State.{cells_of}
-use Rattle.ia32_step.specs.declared.grammar.Instruction.{Instruction}
-use Rattle.ia32_step.specs.Grammar.{decoded, Spells, IsOutside, IsUnfinished}
-use Rattle.ia32_step.specs.Meaning.{faulted, meaning}
-use Rattle.guest_map.specs.Slots.{slot_at}
+use Rattle.ia32_step.specs.Meaning.{meaning}
 
 -- ---- one step
+
+-- a fault of memory is the instruction's
+abbrev pub faulted : MemFault → Outcome
+faulted (fault.Unmapped a) = Faulted kind.Unmapped a
+faulted (fault.NotReadable a) = Faulted kind.NotReadable a
+faulted (fault.NotWritable a) = Faulted kind.NotWritable a
+faulted (fault.NotExecutable a) = Faulted kind.NotExecutable a
+
+-- an instruction at this EIP has no result
+abbrev pub stopped : Stop → ℕ → Outcome
+stopped stop.DivideError eip = Faulted kind.DivideError (address eip)
+stopped (stop.Memory f) eip = faulted f
+
+abbrev pub ended : Result Machine Stop → ℕ → Outcome
+ended (Ok n) eip = Moved n
+ended (Err s) eip = stopped s eip
+
+-- an instruction that so many bytes spell
+abbrev pub done_by : Instr → ℕ → Machine → Outcome
+done_by i n m = ended (meaning i n m) m.registers.eip
 
 -- no instruction is read at EIP
 abbrev pub outside : Machine → Outcome
 outside m = Faulted kind.Outside (address m.registers.eip)
 
--- the bytes end before an instruction does: the next one faults (it always does, since no instruction has 15 bytes: `StepsAsSpelled`)
+-- the bytes end before an instruction does: the next one faults (it always does, since no instruction has more than 15 bytes: `StepsAsSpelled`)
 abbrev pub cut_off : Option MemFault → Machine → Outcome
 cut_off (Some fault) m = faulted fault
 cut_off None m = outside m
 
 abbrev pub read_as : Decoded → ℕ → Machine → Outcome
-read_as (read.One instruction length) n m = meaning instruction length m
-read_as (read.Outside _) n m = outside m
-read_as read.More n m = cut_off (fault_at Executing (cells_of m) (m.registers.eip + n)) m
+read_as (read.One i n) k m = done_by i n m
+read_as (read.Outside _) k m = outside m
+read_as read.More k m = cut_off (fault_at Executing (cells_of m) (m.registers.eip + k)) m
 
 -- these bytes stand at EIP
 abbrev pub run_of : List ℕ → Machine → Outcome
@@ -73,11 +98,11 @@ moved m = after (outcome m) m
 -- What stands at an EIP that is no slot's address:
 pub record StepsAsSpelled (m : Machine) : Type 0 where
   -- an instruction is done
-  pub done : (i : Instruction) (spelling rest : List ℕ) → Spells spelling i → spelling ++ rest ≡ code_of m → outcome m ≡ meaning i (length spelling) m
+  pub done : (i : Instr) (spelling rest : List ℕ) → Spells spelling i → spelling ++ rest ≡ code_of m → outcome m ≡ done_by i (length spelling) m
   -- bytes that begin no instruction are outside
-  pub outside : (k : ℕ) → All (λ b. b < 2 ^ 8) (code_of m) → IsOutside (code_of m) k → outcome m ≡ Faulted kind.Outside (address m.registers.eip)
+  pub outside : (k : ℕ) → AreBytes (code_of m) → IsOutsideAt instruction (code_of m) k → outcome m ≡ Faulted kind.Outside (address m.registers.eip)
   -- where the bytes that can be executed end before an instruction does, the next byte faults
-  pub cut_off : IsUnfinished (code_of m) → (fault : MemFault) × (fault_at Executing (cells_of m) (m.registers.eip + length (code_of m)) ≡ Some fault) × (outcome m ≡ faulted fault)
+  pub cut_off : AreBytes (code_of m) → IsUnfinished instruction (code_of m) → (fault : MemFault) × (fault_at Executing (cells_of m) (m.registers.eip + length (code_of m)) ≡ Some fault) × (outcome m ≡ faulted fault)
 
 abbrev pub EachStepIsAsSpelled : Type 0
 EachStepIsAsSpelled = (m : Machine) → slot_at m.registers.eip ≡ None → StepsAsSpelled m

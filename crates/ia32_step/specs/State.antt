@@ -17,9 +17,6 @@ machine r m = record { registers = r; memory = m }
 abbrev pub cells_of : Machine → Cells
 cells_of m = map.get m.memory
 
-abbrev pub with_registers : Machine → Registers → Machine
-with_registers m r = record m { registers = r }
-
 -- EIP is a slot's address; the instruction's result; the instruction has no result
 pub data Outcome : Type 0 where
   Trapped : Slot → Outcome

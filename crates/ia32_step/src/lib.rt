@@ -1,23 +1,37 @@
-//! One step of an IA-32 program: 32-bit operands and addresses, flat memory (Intel SDM volumes 1
-//! and 2).
+//! One step of an IA-32 program: the integer instructions in 32-bit flat mode (Intel SDM volumes 1
+//! and 2). Which instructions there are, and what is left out, is in docs/INSTRUCTIONS.md.
+//!
+//! An instruction is a pure function of registers and memory to an effect, new registers and at
+//! most one write, or to a fault. One place makes the effect, so a fault changes nothing.
 #![tactic(auto)]
 
 ghost use Rattle.std.specs.Prelude.{◌≡◌, ◌≤◌, ◌+◌, length};
 ghost use Rattle.std.specs.FinMap as map;
 ghost use Rattle.nd_mem.specs.Space.{fault_at, Executing};
-ghost use Rattle.ia32_step.specs.Machine.{machine, run_of, cut_off, outcome, answer_to, after, moved, EachStepIsAsSpelled};
+ghost use Rattle.ia32_step.specs.Machine.{machine, faulted, stopped, done_by, run_of, cut_off, outcome, answer_to, after, moved, EachStepIsAsSpelled};
 
-mod grammar;
-mod meaning;
+mod arithmetic;
+mod bit_strings;
+mod conditions;
+mod control;
+mod effects;
+mod execute;
+mod moves;
+mod operands;
+mod products;
 mod registers;
+mod stack;
+mod strings;
 
-pub use grammar::{reading_is_exact, spelling_is_one, spelling_is_whole};
-use grammar::{Decoded, decode};
+use effects::Stop;
+use execute::execute;
 use guest_map::slot_at;
-use meaning::{execute, refused};
+use ia32_decode::{
+    Decoded, Instr, at_most_fifteen_bytes, decode, decoding_is_exact, spelled_is_decoded,
+};
 use nd_base::{Addr, Slot};
-use nd_mem::{Memory, fetch_laws, read_laws};
-pub use registers::{Flag, Regs};
+use nd_mem::{MemFault, Memory, fetch_laws, read_laws};
+pub use registers::Regs;
 
 /// Why an instruction has no result.
 #[derive(Clone, Copy, Debug, PartialEq, Eq)]
@@ -43,29 +57,63 @@ pub enum Stepped {
     Fault(FaultKind, Addr),
 }
 
+/// The answer to an access that faults.
+fn refused(fault: MemFault) -> Stepped
+    ensures { result ≡ answer_to (faulted fault) }
+{
+    match fault {
+        MemFault::Unmapped(at) => Stepped::Fault(FaultKind::Unmapped, at),
+        MemFault::NotReadable(at) => Stepped::Fault(FaultKind::NotReadable, at),
+        MemFault::NotWritable(at) => Stepped::Fault(FaultKind::NotWritable, at),
+        MemFault::NotExecutable(at) => Stepped::Fault(FaultKind::NotExecutable, at),
+    }
+}
+
+/// The answer where an instruction at this EIP has no result.
+fn stopped(stop: Stop, eip: u32) -> Stepped
+    ensures { result ≡ answer_to (stopped stop eip) }
+{
+    match stop {
+        Stop::DivideError => Stepped::Fault(FaultKind::DivideError, Addr(eip)),
+        Stop::Memory(fault) => refused(fault),
+    }
+}
+
+/// Does the instruction, which so many bytes spell.
+fn run_one(i: Instr, length: u8, r: &mut Regs, m: &mut Memory) -> Stepped
+    ensures answer { result ≡ answer_to (done_by i length (machine r.old m.old)) }
+    ensures state { machine r.new m.new ≡ after (done_by i length (machine r.old m.old)) (machine r.old m.old) }
+{
+    let eip = r.eip;
+    match execute(i, length, r, m) {
+        Ok(()) => Stepped::Went,
+        Err(stop) => stopped(stop, eip),
+    }
+}
+
 /// The answer where all of these bytes at EIP only begin an instruction.
 fn cut_off(length: usize, r: &Regs, m: &Memory) -> Stepped
     requires { length ≤ 15 }
     ensures { result ≡ answer_to (cut_off (fault_at Executing (map.get m.now) (r.now.eip + length)) (machine r.now m.now)) }
 {
-    let eip = r.eip();
+    let eip = r.eip;
     let mut next = [0; 15];
     match m.fetch(Addr(eip.wrapping_add(length as u32)), &mut next) {
-        // Not reached: no instruction has 15 bytes.
+        // Not reached: no instruction has 15 bytes and goes on.
         Ok(_) => Stepped::Fault(FaultKind::Outside, Addr(eip)),
         Err(fault) => refused(fault),
     }
 }
 
 /// Runs the instruction that these bytes at EIP begin with.
-fn run(code: &[u8], r: &mut Regs, m: &Memory) -> Stepped
+fn run(code: &[u8], r: &mut Regs, m: &mut Memory) -> Stepped
     requires { length code.now ≤ 15 }
-    ensures answer { result ≡ answer_to (run_of code.now (machine r.old m.now)) }
-    ensures state { machine r.new m.now ≡ after (run_of code.now (machine r.old m.now)) (machine r.old m.now) }
+    ensures answer { result ≡ answer_to (run_of code.now (machine r.old m.old)) }
+    ensures state { machine r.new m.new ≡ after (run_of code.now (machine r.old m.old)) (machine r.old m.old) }
 {
     match decode(code) {
-        Decoded::One(instruction, length) => execute(instruction, length, r, m),
-        Decoded::Outside(_) => Stepped::Fault(FaultKind::Outside, Addr(r.eip())),
+        Decoded::One(i, length) => run_one(i, length, r, m),
+        Decoded::Outside(_) => Stepped::Fault(FaultKind::Outside, Addr(r.eip)),
         Decoded::More => cut_off(code.len(), r, m),
     }
 }
@@ -73,10 +121,10 @@ fn run(code: &[u8], r: &mut Regs, m: &Memory) -> Stepped
 /// One step of the program in `m`. A fault changes nothing.
 #[tactic(auto, unfolding(crate::specs::Machine::outcome))]
 pub fn step(r: &mut Regs, m: &mut Memory) -> Stepped
-    ensures answer { result ≡ answer_to (outcome (record { registers = r.old; memory = m.old })) }
-    ensures state { record { registers = r.new; memory = m.new } ≡ moved (record { registers = r.old; memory = m.old }) }
+    ensures answer { result ≡ answer_to (outcome (machine r.old m.old)) }
+    ensures state { machine r.new m.new ≡ moved (machine r.old m.old) }
 {
-    let eip = Addr(r.eip());
+    let eip = Addr(r.eip);
     if let Some(slot) = slot_at(eip) {
         return Stepped::Trap(slot);
     }
@@ -91,6 +139,9 @@ pub fn step(r: &mut Regs, m: &mut Memory) -> Stepped
 pub fn each_step_is_as_spelled()
     ensures { EachStepIsAsSpelled }
 {
-    read_laws();
+    at_most_fifteen_bytes();
+    decoding_is_exact();
     fetch_laws();
+    read_laws();
+    spelled_is_decoded();
 }

@@ -1,52 +1,29 @@
-//! The registers of an IA-32 program (Intel SDM volume 1, "Basic Program
-//! Execution Registers").
+//! The registers of an IA-32 program (Intel SDM volume 1, "Basic Program Execution Registers").
 
-ghost use Rattle.std.specs.Prelude.{◌≡◌, ◌<◌, slice_index, slice_set, replicate};
-ghost use Rattle.ia32_step.specs.Registers.{at_reset, flag_of, with_flag};
+ghost use Rattle.std.specs.Prelude.{◌≡◌, ◌<◌};
+ghost use Rattle.ia32_arithmetic.specs.Widths.{size};
+ghost use Rattle.ia32_step.specs.Registers.{at_reset, part, with_part};
 
-use std::marker::Model;
+use ia32_arithmetic::{Flags, Width};
 
-/// A flag of EFLAGS: carry, parity, auxiliary carry, zero, sign, direction, overflow.
-#[derive(Clone, Copy, Debug, PartialEq, Eq)]
-pub enum Flag {
-    CF,
-    PF,
-    AF,
-    ZF,
-    SF,
-    DF,
-    OF,
-}
+pub(crate) const ECX: usize = 1;
 
-#[derive(Clone, Copy, Debug, PartialEq, Eq)]
-struct Flags {
-    carry: bool,
-    parity: bool,
-    auxiliary: bool,
-    zero: bool,
-    sign: bool,
-    direction: bool,
-    overflow: bool,
-}
+pub(crate) const ESP: usize = 4;
 
-/// The eight general registers, EIP and the flags.
+pub(crate) const EBP: usize = 5;
+
+pub(crate) const ESI: usize = 6;
+
+pub(crate) const EDI: usize = 7;
+
+/// The general registers, EIP and the flags.
 #[derive(Clone, Copy, Debug, PartialEq, Eq)]
 pub struct Regs {
-    general: [u32; 8],
-    eip: u32,
-    flags: Flags,
-}
-
-impl Model for Regs {
-    ghost use Rattle.ia32_step.specs.Registers.{Registers};
-
-    ghost Value = { Registers };
-
-    ghost use Rattle.ia32_step.specs.Seen.{seen, kept};
-
-    ghost view = { seen };
-
-    ghost inverse = { kept };
+    /// EAX, ECX, EDX, EBX, ESP, EBP, ESI, EDI.
+    pub general: [u32; 8],
+    /// The address of the next instruction.
+    pub eip: u32,
+    pub flags: Flags,
 }
 
 impl Regs {
@@ -57,75 +34,47 @@ impl Regs {
         Regs {
             general: [0; 8],
             eip: 0,
-            flags: Flags {
-                carry: false,
-                parity: false,
-                auxiliary: false,
-                zero: false,
-                sign: false,
-                direction: false,
-                overflow: false,
-            },
+            flags: Flags::new(),
         }
     }
+}
 
-    /// The general register of this number: EAX, ECX, EDX, EBX, ESP, EBP, ESI, EDI.
-    pub fn get(&self, r: u8) -> u32
-        requires { r < 8 }
-        ensures { result ≡ slice_index self.now.general r }
-    {
-        self.general[r as usize]
+/// The number in the register that three bits name: AL, CL, DL, BL, AH, CH, DH, BH; AX to DI; EAX
+/// to EDI.
+#[tactic(auto, unfolding(crate::specs::Registers::part))]
+pub(crate) fn part(w: Width, n: u8, r: &Regs) -> u32
+    ensures value { result ≡ part w n r.now }
+    ensures fits { result < size w }
+{
+    match w {
+        Width::Byte if n % 8 < 4 => r.general[(n % 4) as usize] % 0x100,
+        Width::Byte => r.general[(n % 4) as usize] / 0x100 % 0x100,
+        Width::Word => r.general[(n % 8) as usize] % 0x1_0000,
+        Width::Doubleword => r.general[(n % 8) as usize],
     }
+}
 
-    /// Sets the general register of this number.
-    pub fn set(&mut self, r: u8, v: u32)
-        requires { r < 8 }
-        ensures { self.new ≡ record self.old { general = slice_set self.old.general r v } }
-    {
-        self.general[r as usize] = v;
-    }
-
-    /// The address of the next instruction.
-    pub fn eip(&self) -> u32
-        ensures { result ≡ self.now.eip }
-    {
-        self.eip
-    }
-
-    /// Sets the address of the next instruction.
-    pub fn set_eip(&mut self, v: u32)
-        ensures { self.new ≡ record self.old { eip = v } }
-    {
-        self.eip = v;
-    }
-
-    /// Whether the flag is set.
-    pub fn flag(&self, f: Flag) -> bool
-        ensures { result ≡ flag_of f self.now }
-    {
-        match f {
-            Flag::CF => self.flags.carry,
-            Flag::PF => self.flags.parity,
-            Flag::AF => self.flags.auxiliary,
-            Flag::ZF => self.flags.zero,
-            Flag::SF => self.flags.sign,
-            Flag::DF => self.flags.direction,
-            Flag::OF => self.flags.overflow,
+/// The registers with one of them, or a part of it, changed.
+#[tactic(auto, unfolding(crate::specs::Registers::with_part))]
+pub(crate) fn with_part(w: Width, n: u8, v: u32, r: Regs) -> Regs
+    requires { v < size w }
+    ensures { result ≡ with_part w n v r }
+{
+    let mut r = r;
+    match w {
+        Width::Byte if n % 8 < 4 => {
+            let old = r.general[(n % 4) as usize];
+            r.general[(n % 4) as usize] = old / 0x100 * 0x100 + v;
         }
-    }
-
-    /// Sets or clears the flag.
-    pub fn set_flag(&mut self, f: Flag, v: bool)
-        ensures { self.new ≡ with_flag f v self.old }
-    {
-        match f {
-            Flag::CF => self.flags.carry = v,
-            Flag::PF => self.flags.parity = v,
-            Flag::AF => self.flags.auxiliary = v,
-            Flag::ZF => self.flags.zero = v,
-            Flag::SF => self.flags.sign = v,
-            Flag::DF => self.flags.direction = v,
-            Flag::OF => self.flags.overflow = v,
+        Width::Byte => {
+            let old = r.general[(n % 4) as usize];
+            r.general[(n % 4) as usize] = old / 0x1_0000 * 0x1_0000 + v * 0x100 + old % 0x100;
         }
+        Width::Word => {
+            let old = r.general[(n % 8) as usize];
+            r.general[(n % 8) as usize] = old / 0x1_0000 * 0x1_0000 + v;
+        }
+        Width::Doubleword => r.general[(n % 8) as usize] = v,
     }
+    r
 }

@@ -1,189 +1,327 @@
-//! Small programs, step by step.
+//! Instructions, one at a time and in small programs.
 
-use ia32_step::{FaultKind, Flag, Regs, Stepped, step};
+use ia32_arithmetic::Flags;
+use ia32_step::{FaultKind, Regs, Stepped, step};
 use nd_base::{Addr, Slot};
 use nd_mem::{Memory, Rights};
 use std::alloc::Global;
 
-/// Where the programs stand.
-const START: u32 = 0x1000;
+/// Where code stands. It can be read and executed.
+const CODE: u32 = 0x1000;
 
-/// The first address behind them.
-const END: u32 = START + 8;
+/// Where data stand, 0 at first. They can be read and written.
+const DATA: u32 = 0x2000;
 
-/// The number of the stack pointer.
-const ESP: u8 = 4;
+const EAX: usize = 0;
 
-/// Puts a program where nothing else is mapped, with these rights.
-fn load(alloc: Global, m: &mut Memory, rights: Rights, program: &[u8; 8]) -> bool {
-    m.add_region(alloc, Addr(START), 8, rights).is_ok() && m.place(Addr(START), program).is_ok()
-}
+const ECX: usize = 1;
 
-/// Puts a program where it can be read and executed.
-fn load_code(alloc: Global, m: &mut Memory, program: &[u8; 8]) -> bool {
+const EDX: usize = 2;
+
+const ESP: usize = 4;
+
+const ESI: usize = 6;
+
+const EDI: usize = 7;
+
+/// The bits of CF, PF, AF, ZF and OF in EFLAGS.
+const CF: u32 = 1;
+
+const PF: u32 = 4;
+
+const AF: u32 = 0x10;
+
+const ZF: u32 = 0x40;
+
+const OF: u32 = 0x800;
+
+fn add(alloc: Global, m: &mut Memory, at: u32, write: bool, execute: bool) -> bool {
     let rights = Rights {
         read: true,
-        write: false,
-        execute: true,
+        write,
+        execute,
     };
-    load(alloc, m, rights, program)
+    m.add_region(alloc, Addr(at), 0x100, rights).is_ok()
 }
 
-/// Registers at an instruction of the program.
-fn at(eip: u32) -> Regs {
-    let mut r = Regs::new();
-    r.set_eip(eip);
-    r
+/// Code and data.
+fn lay_out(alloc: Global, m: &mut Memory) -> bool {
+    add(alloc, m, CODE, false, true) && add(alloc, m, DATA, true, false)
 }
 
-fn goes(r: &mut Regs, m: &mut Memory) -> bool {
-    step(r, m) == Stepped::Went
+/// A step of the instruction that these bytes spell.
+fn one(code: &[u8], r: &mut Regs, m: &mut Memory) -> Stepped {
+    let _ = m.place(Addr(CODE), code);
+    r.eip = CODE;
+    step(r, m)
 }
 
-/// The step faults, and changes no register.
-fn faults(r: &mut Regs, m: &mut Memory, kind: FaultKind, address: u32) -> bool {
+/// The instruction is done, and EIP is behind it.
+fn goes(code: &[u8], r: &mut Regs, m: &mut Memory) -> bool {
+    one(code, r, m) == Stepped::Went && u64::from(r.eip) == 0x1000 + code.len() as u64
+}
+
+/// The instruction faults, and changes no register.
+fn faults(code: &[u8], r: &mut Regs, m: &mut Memory, kind: FaultKind, at: u32) -> bool {
+    r.eip = CODE;
     let before = *r;
-    step(r, m) == Stepped::Fault(kind, Addr(address)) && *r == before
+    one(code, r, m) == Stepped::Fault(kind, Addr(at)) && *r == before
 }
 
-/// mov eax, 5; add eax, -5: the sum carries out of its low four bits and out of the whole.
-fn moves_and_adds(r: &mut Regs, m: &mut Memory) -> bool {
-    goes(r, m)
-        && r.get(0) == 5
-        && goes(r, m)
-        && r.get(0) == 0
-        && r.eip() == END
-        && r.flag(Flag::CF)
-        && r.flag(Flag::PF)
-        && r.flag(Flag::AF)
-        && r.flag(Flag::ZF)
-        && !r.flag(Flag::SF)
-        && !r.flag(Flag::OF)
+/// The four bytes at an address of data.
+fn word_at(m: &Memory, at: u32) -> u32 {
+    let mut bytes = [0; 4];
+    let _ = m.read(Addr(at), &mut bytes);
+    u32::from_le_bytes(bytes)
 }
 
-#[test]
-fn a_move_and_an_addition(rt: HostRuntime) {
-    let mut m = Memory::new(rt.alloc());
-    let program = [0xB8, 5, 0, 0, 0, 0x83, 0xC0, 0xFB];
-    let holds = load_code(rt.alloc(), &mut m, &program) && moves_and_adds(&mut at(START), &mut m);
-    assert!(rt; holds);
-}
-
-/// mov edi, 7fffffff; add edi, 1: the signed sum does not fit.
-fn overflows(r: &mut Regs, m: &mut Memory) -> bool {
-    goes(r, m)
-        && goes(r, m)
-        && r.get(7) == 0x8000_0000
-        && r.flag(Flag::OF)
-        && r.flag(Flag::SF)
-        && r.flag(Flag::AF)
-        && r.flag(Flag::PF)
-        && !r.flag(Flag::CF)
-        && !r.flag(Flag::ZF)
+/// adc al, ff, and a 16-bit addition, which keeps the high half.
+fn adds(m: &mut Memory) -> bool {
+    let mut r = Regs::new();
+    r.general[EAX] = 0x1234_5600;
+    r.flags = Flags::of_word(CF);
+    let carried = goes(&[0x14, 0xFF], &mut r, m)
+        && r.general[EAX] == 0x1234_5600
+        && r.flags == Flags::of_word(CF + PF + AF + ZF);
+    r.general[ECX] = 0x0001_AA01;
+    // add ax, cx
+    carried && goes(&[0x66, 0x01, 0xC8], &mut r, m) && r.general[EAX] == 0x1234_0001
 }
 
 #[test]
-fn a_signed_sum_that_does_not_fit(rt: HostRuntime) {
+fn additions(rt: HostRuntime) {
     let mut m = Memory::new(rt.alloc());
-    let program = [0xBF, 0xFF, 0xFF, 0xFF, 0x7F, 0x83, 0xC7, 1];
-    let holds = load_code(rt.alloc(), &mut m, &program) && overflows(&mut at(START), &mut m);
+    let holds = lay_out(rt.alloc(), &mut m) && adds(&mut m);
     assert!(rt; holds);
 }
 
-/// ret 4, to the address that stands at ESP.
-fn returns(r: &mut Regs, m: &mut Memory) -> bool {
-    r.set(ESP, START + 3);
-    goes(r, m) && r.eip() == 0x1234_5678 && r.get(ESP) == START + 11
+/// div ecx by 0; idiv of -2 ^ 63 by -1, and of the least number whose quotient fits.
+fn divides(m: &mut Memory) -> bool {
+    let mut r = Regs::new();
+    r.general[EAX] = 7;
+    let by_zero = faults(&[0xF7, 0xF1], &mut r, m, FaultKind::DivideError, CODE);
+    r.general[EAX] = 0;
+    r.general[EDX] = 0x8000_0000;
+    r.general[ECX] = 0xFFFF_FFFF;
+    let large = faults(&[0xF7, 0xF9], &mut r, m, FaultKind::DivideError, CODE);
+    r.general[EAX] = 0x8000_0000;
+    r.general[EDX] = 0xFFFF_FFFF;
+    r.general[ECX] = 1;
+    by_zero
+        && large
+        && goes(&[0xF7, 0xF9], &mut r, m)
+        && r.general[EAX] == 0x8000_0000
+        && r.general[EDX] == 0
 }
 
 #[test]
-fn a_return(rt: HostRuntime) {
+fn divisions(rt: HostRuntime) {
     let mut m = Memory::new(rt.alloc());
-    let program = [0xC2, 4, 0, 0x78, 0x56, 0x34, 0x12, 0];
-    let holds = load_code(rt.alloc(), &mut m, &program) && returns(&mut at(START), &mut m);
+    let holds = lay_out(rt.alloc(), &mut m) && divides(&mut m);
     assert!(rt; holds);
 }
 
-/// mov eax, 1; add eax, 0 is never reached: jmp goes back over itself, and flags stay.
-fn jumps(r: &mut Regs, m: &mut Memory) -> bool {
-    r.set_flag(Flag::DF, true);
-    for _ in 0..100_000 {
-        if !goes(r, m) {
+/// push esp pushes it as it was; pop [esp] is by ESP as it becomes.
+fn pushes_and_pops(m: &mut Memory) -> bool {
+    let mut r = Regs::new();
+    r.general[ESP] = DATA + 0x20;
+    goes(&[0x54], &mut r, m)
+        && r.general[ESP] == DATA + 0x1C
+        && word_at(m, DATA + 0x1C) == DATA + 0x20
+        && goes(&[0x8F, 0x04, 0x24], &mut r, m)
+        && r.general[ESP] == DATA + 0x20
+        && word_at(m, DATA + 0x20) == DATA + 0x20
+}
+
+/// pushad and popad give back all registers; ESP is not taken from the stack.
+fn pushes_all(m: &mut Memory) -> bool {
+    let mut r = Regs::new();
+    r.general = [1, 2, 3, 4, DATA + 0x40, 6, 7, 8];
+    let pushed = goes(&[0x60], &mut r, m) && r.general[ESP] == DATA + 0x20;
+    r.general = [0, 0, 0, 0, DATA + 0x20, 0, 0, 0];
+    pushed && goes(&[0x61], &mut r, m) && r.general == [1, 2, 3, 4, DATA + 0x40, 6, 7, 8]
+}
+
+#[test]
+fn the_stack(rt: HostRuntime) {
+    let mut m = Memory::new(rt.alloc());
+    let holds = lay_out(rt.alloc(), &mut m) && pushes_and_pops(&mut m) && pushes_all(&mut m);
+    assert!(rt; holds);
+}
+
+/// call whose push faults; ret 4; jecxz both ways; loop.
+fn jumps(m: &mut Memory) -> bool {
+    let mut r = Regs::new();
+    let call = [0xE8, 0, 1, 0, 0];
+    let unpushed = faults(&call, &mut r, m, FaultKind::Unmapped, 0xFFFF_FFFC);
+    r.general[ESP] = DATA + 8;
+    let called = one(&call, &mut r, m) == Stepped::Went
+        && r.eip == CODE + 0x105
+        && word_at(m, DATA + 4) == CODE + 5;
+    let returned = one(&[0xC2, 4, 0], &mut r, m) == Stepped::Went
+        && r.eip == CODE + 5
+        && r.general[ESP] == DATA + 12;
+    let jumped = one(&[0xE3, 0x10], &mut r, m) == Stepped::Went && r.eip == CODE + 0x12;
+    r.general[ECX] = 2;
+    let passed = goes(&[0xE3, 0x10], &mut r, m);
+    let looped = one(&[0xE2, 0xFE], &mut r, m) == Stepped::Went && r.eip == CODE;
+    let ended = goes(&[0xE2, 0xFE], &mut r, m) && r.general[ECX] == 0;
+    unpushed && called && returned && jumped && passed && looped && ended
+}
+
+#[test]
+fn jumps_and_calls(rt: HostRuntime) {
+    let mut m = Memory::new(rt.alloc());
+    let holds = lay_out(rt.alloc(), &mut m) && jumps(&mut m);
+    assert!(rt; holds);
+}
+
+/// Accesses of which the second faults: xchg [code], eax; cmpxchg [code], ecx, which is written
+/// where it is unequal too; rep movsb into code.
+fn second_access_faults(m: &mut Memory) -> bool {
+    let mut r = Regs::new();
+    r.general = [5, 3, 0, 0, 0, 0, DATA, CODE];
+    let at = CODE + 0x80;
+    faults(
+        &[0x87, 0x05, 0x80, 0x10, 0, 0],
+        &mut r,
+        m,
+        FaultKind::NotWritable,
+        at,
+    ) && faults(
+        &[0x0F, 0xB1, 0x0D, 0x80, 0x10, 0, 0],
+        &mut r,
+        m,
+        FaultKind::NotWritable,
+        at,
+    ) && faults(&[0xF3, 0xA4], &mut r, m, FaultKind::NotWritable, CODE)
+        && word_at(m, at) == 0
+}
+
+#[test]
+fn a_fault_changes_nothing(rt: HostRuntime) {
+    let mut m = Memory::new(rt.alloc());
+    let holds = lay_out(rt.alloc(), &mut m) && second_access_faults(&mut m);
+    assert!(rt; holds);
+}
+
+/// So many steps of rep movsb, which begins at the code's front.
+fn moves(n: u32, r: &mut Regs, m: &mut Memory) -> bool {
+    for _ in 0..n {
+        if step(r, m) != Stepped::Went {
             return false;
         }
     }
-    r.eip() == START && r.flag(Flag::DF) && *r != at(START)
+    true
 }
 
+/// rep movsb: with ECX 0 nothing; of 100 bytes 64, and then the rest.
+fn repeats(m: &mut Memory) -> bool {
+    let mut r = Regs::new();
+    let none = goes(&[0xF3, 0xA4], &mut r, m) && r.general == [0; 8];
+    let _ = m.place(Addr(DATA), &[0xA5; 100]);
+    r.general[ECX] = 100;
+    r.general[ESI] = DATA;
+    r.general[EDI] = DATA + 0x80;
+    r.eip = CODE;
+    let most = moves(64, &mut r, m) && r.general[ECX] == 36 && r.eip == CODE;
+    let not_yet = word_at(m, DATA + 0x80 + 62) == 0xA5A5;
+    let rest = moves(36, &mut r, m) && r.general[ECX] == 0 && r.eip == CODE + 2;
+    let all = word_at(m, DATA + 0x80 + 98) == 0xA5A5 && word_at(m, DATA + 0x80 + 96) == 0xA5A5_A5A5;
+    none && most && not_yet && rest && all
+}
+
+/// repne scasb stops at the byte that is AL; std lets lodsd go down.
+fn scans(m: &mut Memory) -> bool {
+    let mut r = Regs::new();
+    let _ = m.place(Addr(DATA), &[1, 2, 3, 4, 5, 6, 7, 8]);
+    r.general[EAX] = 3;
+    r.general[ECX] = 10;
+    r.general[EDI] = DATA;
+    let _ = m.place(Addr(CODE), &[0xF2, 0xAE]);
+    r.eip = CODE;
+    let found = moves(3, &mut r, m)
+        && r.eip == CODE + 2
+        && r.general[ECX] == 7
+        && r.general[EDI] == DATA + 3
+        && r.flags.zero;
+    r.general[ESI] = DATA + 4;
+    let down = goes(&[0xFD], &mut r, m) && goes(&[0xAD], &mut r, m);
+    found && down && r.general[EAX] == 0x0807_0605 && r.general[ESI] == DATA
+}
+
+#[test]
+fn strings(rt: HostRuntime) {
+    let mut m = Memory::new(rt.alloc());
+    let holds = lay_out(rt.alloc(), &mut m) && repeats(&mut m) && scans(&mut m);
+    assert!(rt; holds);
+}
+
+/// bt [data + 8], eax with EAX -1 is bit 31 of the number below; lock bts of an immediate; movsx,
+/// lea, setc and cmov of 16 bits.
+fn bits_and_moves(m: &mut Memory) -> bool {
+    let mut r = Regs::new();
+    let _ = m.place(Addr(DATA + 4), &[0, 0, 0, 0x80]);
+    r.general[EAX] = 0xFFFF_FFFF;
+    let below = goes(&[0x0F, 0xA3, 0x05, 0x08, 0x20, 0, 0], &mut r, m) && r.flags.carry;
+    let set = goes(&[0xF0, 0x0F, 0xBA, 0x2D, 0x08, 0x20, 0, 0, 0x21], &mut r, m)
+        && !r.flags.carry
+        && word_at(m, DATA + 8) == 2;
+    r.general[ECX] = 0x80;
+    let extended = goes(&[0x66, 0x0F, 0xBE, 0xC1], &mut r, m) && r.general[EAX] == 0xFFFF_FF80;
+    // lea edx, [eax + ecx * 2 + 1]
+    let address = goes(&[0x8D, 0x54, 0x48, 1], &mut r, m) && r.general[EDX] == 0x81;
+    r.flags = Flags::of_word(CF + OF);
+    // setc dh; cmovo ax, cx
+    let chosen = goes(&[0x0F, 0x92, 0xC6], &mut r, m)
+        && r.general[EDX] == 0x181
+        && goes(&[0x66, 0x0F, 0x40, 0xC1], &mut r, m)
+        && r.general[EAX] == 0xFFFF_0080;
+    below && set && extended && address && chosen
+}
+
+#[test]
+fn bits_and_extensions(rt: HostRuntime) {
+    let mut m = Memory::new(rt.alloc());
+    let holds = lay_out(rt.alloc(), &mut m) && bits_and_moves(&mut m);
+    assert!(rt; holds);
+}
+
+/// jmp to itself, a hundred thousand times.
 #[test]
 fn a_hundred_thousand_jumps(rt: HostRuntime) {
     let mut m = Memory::new(rt.alloc());
-    let program = [0xEB, 4, 0, 0, 0, 0, 0xEB, 0xF8];
-    let holds = load_code(rt.alloc(), &mut m, &program) && jumps(&mut at(START), &mut m);
+    let mut r = Regs::new();
+    let holds = lay_out(rt.alloc(), &mut m)
+        && one(&[0xEB, 0xFE], &mut r, &mut m) == Stepped::Went
+        && moves(99_999, &mut r, &mut m)
+        && r.eip == CODE;
     assert!(rt; holds);
 }
 
-/// FLD ST(0) is none of the instructions; behind it a move's immediate is cut off, and the stack of
-/// a return ends after two bytes; nothing is mapped behind them.
-fn faults_of_code(m: &mut Memory) -> bool {
-    let mut returning = at(START + 2);
-    returning.set(ESP, START + 6);
-    faults(&mut at(START), m, FaultKind::Outside, START)
-        && faults(&mut returning, m, FaultKind::Unmapped, END)
-        && faults(&mut at(START + 5), m, FaultKind::Unmapped, END)
-        && faults(&mut at(END), m, FaultKind::Unmapped, END)
-}
-
-#[test]
-fn faults_change_no_register(rt: HostRuntime) {
-    let mut m = Memory::new(rt.alloc());
-    let program = [0xD9, 0xC0, 0xC2, 0, 0, 0xB8, 5, 0];
-    let holds = load_code(rt.alloc(), &mut m, &program) && faults_of_code(&mut m);
-    assert!(rt; holds);
-}
-
-/// Code that can't be read runs, but for a return whose stack stands in it.
-fn faults_unread(m: &mut Memory) -> bool {
-    let mut returning = at(START + 5);
-    returning.set(ESP, START);
-    goes(&mut at(START), m) && faults(&mut returning, m, FaultKind::NotReadable, START)
-}
-
-#[test]
-fn what_can_not_be_read(rt: HostRuntime) {
-    let mut m = Memory::new(rt.alloc());
-    let rights = Rights {
-        read: false,
-        write: false,
-        execute: true,
-    };
-    let program = [0xB8, 5, 0, 0, 0, 0xC2, 0, 0];
-    let holds = load(rt.alloc(), &mut m, rights, &program) && faults_unread(&mut m);
-    assert!(rt; holds);
-}
-
-#[test]
-fn what_can_not_be_executed(rt: HostRuntime) {
-    let mut m = Memory::new(rt.alloc());
-    let rights = Rights {
-        read: true,
-        write: true,
-        execute: false,
-    };
-    let program = [0xB8, 5, 0, 0, 0, 0xC2, 0, 0];
-    let holds = load(rt.alloc(), &mut m, rights, &program)
-        && faults(
-            &mut at(START + 5),
-            &mut m,
-            FaultKind::NotExecutable,
-            START + 5,
-        );
-    assert!(rt; holds);
-}
-
-/// What a step answers at an address where nothing is mapped.
+/// A step at an address where no code was placed.
 fn stepped_at(m: &mut Memory, eip: u32) -> Stepped {
-    step(&mut at(eip), m)
+    let mut r = Regs::new();
+    r.eip = eip;
+    step(&mut r, m)
+}
+
+/// FLD ST(0) is none of the instructions; an instruction is cut off by the end of the code; data
+/// can't be executed; nothing is mapped behind them.
+fn code_faults(m: &mut Memory) -> bool {
+    let mut r = Regs::new();
+    let _ = m.place(Addr(CODE + 0xFE), &[0xB8, 5]);
+    faults(&[0xD9, 0xC0], &mut r, m, FaultKind::Outside, CODE)
+        && stepped_at(m, CODE + 0xFE) == Stepped::Fault(FaultKind::Unmapped, Addr(CODE + 0x100))
+        && stepped_at(m, DATA) == Stepped::Fault(FaultKind::NotExecutable, Addr(DATA))
+        && stepped_at(m, DATA + 0x100) == Stepped::Fault(FaultKind::Unmapped, Addr(DATA + 0x100))
+}
+
+#[test]
+fn what_is_no_code(rt: HostRuntime) {
+    let mut m = Memory::new(rt.alloc());
+    let holds = lay_out(rt.alloc(), &mut m) && code_faults(&mut m);
+    assert!(rt; holds);
 }
 
 #[test]
@@ -192,17 +330,7 @@ fn slots_trap(rt: HostRuntime) {
     let holds = stepped_at(&mut m, 0xF000_1000) == Stepped::Trap(Slot::Leave)
         && stepped_at(&mut m, 0xF000_0000) == Stepped::Trap(Slot::Import(1))
         && stepped_at(&mut m, 0xF000_03F0) == Stepped::Trap(Slot::Import(64))
-        && faults(
-            &mut at(0xF000_0400),
-            &mut m,
-            FaultKind::Unmapped,
-            0xF000_0400,
-        )
-        && faults(
-            &mut at(0xF000_0001),
-            &mut m,
-            FaultKind::Unmapped,
-            0xF000_0001,
-        );
+        && stepped_at(&mut m, 0xF000_0400)
+            == Stepped::Fault(FaultKind::Unmapped, Addr(0xF000_0400));
     assert!(rt; holds);
 }

@@ -1,54 +1,37 @@
 -- What is answered once the model line and its install section are found.
-use Rattle.std.proofs.Common.{◌≡◌, ◌≢◌, ℕ, List, Option, None, Some, Result, Ok, Err, inl, inr, refl, sym, ap, ◌∙◌}
+use Rattle.std.proofs.Common.{◌≡◌, ◌≢◌, ℕ, List, Option, None, Some, Result, Ok, Err, inl, inr, refl, sym}
 use Rattle.std.specs.Prelude.{codes}
-use Rattle.std.specs.Option.{option_and_then}
 use Rattle.std.proofs.lemmas.Bool.{cases_Bool}
-use Rattle.inf_file.specs.Sections.{Line, Section, lines_named, lines_at_some}
+use Rattle.inf_text.specs.Sections.{Line, Section, lines_named}
 use Rattle.inf_file.specs.Strings.{line_lacks}
-use Rattle.inf_file.specs.Models.{is_signed, install_place}
+use Rattle.inf_file.specs.Models.{is_signed}
 use Rattle.inf_file.specs.Rows.{is_bad, params_of}
 use Rattle.inf_file.specs.Earliest.{earliest}
-use Rattle.inf_file.specs.Parameters.{directives_of, rows_named, unless_bad, unless_lacking, of_rows, of_install, of_model, parameters_of}
-use Rattle.inf_file.specs.ByName.{strings_in, model_in, install_of, rows_of}
-use Rattle.inf_file.specs.Faults.{lines_with, lines_for}
+use Rattle.inf_file.specs.Parameters.{strings_in, model_in, install_of, directives_of, rows_named, unless_bad, unless_lacking, of_rows, answer, parameters_of}
+use Rattle.inf_file.specs.ByName.{lines_at_some, rows_of}
+use Rattle.inf_file.specs.Faults.{LacksNone, FirstLacking, BadNone, FirstBad, lines_with, lines_for}
+use Rattle.inf_file.proofs.EarliestLaws.{earliest-some, earliest-none}
 use Rattle.inf_file.specs.declared.param.Param.{Param}
 use Rattle.inf_file.specs.declared.param.ParamRefusal.{ParamRefusal}
 use Rattle.inf_file.specs.declared.param.ParamRefusal.TheVariants.{NoVersion, NoModel, NoInstall, NoString, BadValue}
 
 module _ (ss : List Section) (id : List ℕ) where
-  -- what is answered where this is the model line, and this the place of the install section
-  abbrev answer_at : Option Line → Option ℕ → Result (List Param) ParamRefusal
-  answer_at model install =
-      let directives = directives_of (lines_at_some ss install) in
-      let rows = rows_named (strings_in ss) ss directives in
-      of_rows (strings_in ss) (lines_with ss directives rows model) rows
-
   -- refusals that come before any row is read
   record IsLater (r : Result (List Param) ParamRefusal) : Type 0 where
     version : r ≢ Err NoVersion
     model : r ≢ Err NoModel
     install : r ≢ Err NoInstall
 
-  makers : List Line
-  makers = lines_named (codes "Manufacturer") ss
-
-  both : (model : Line) (install : ℕ) → model_in ss id ≡ Some model → install_place (strings_in ss) ss model ≡ Some install → answer_at (model_in ss id) (install_of ss id) ≡ answer_at (Some model) (Some install)
-  both model install m i = ap (λ (o : Option Line). answer_at o (install_of ss id)) m ∙ ap (answer_at (Some model)) (ap (option_and_then (install_place (strings_in ss) ss)) m ∙ i)
-
-  install-given : (r : Result (List Param) ParamRefusal) (model : Line) (install : Option ℕ) → IsLater r → model_in ss id ≡ Some model → install_place (strings_in ss) ss model ≡ install
-      → of_install (strings_in ss) ss makers model install ≡ r → r ≡ answer_at (model_in ss id) (install_of ss id)
-  unfolding makers
-  install-given r model None later m i h = absurd (later.install (sym h))
-  install-given r model (Some install) later m i h = sym h ∙ sym (both model install m i)
-
-  model-given : (r : Result (List Param) ParamRefusal) (model : Option Line) → IsLater r → model_in ss id ≡ model → of_model (strings_in ss) ss makers model ≡ r → r ≡ answer_at (model_in ss id) (install_of ss id)
-  model-given r None later m h = absurd (later.model (sym h))
-  model-given r (Some model) later m h = install-given r model (install_place (strings_in ss) ss model) later m refl h
+  found : (r : Result (List Param) ParamRefusal) (model : Option Line) (install : Option ℕ) → IsLater r → answer ss model install ≡ r
+      → let directives = directives_of (lines_at_some ss install) in let rows = rows_named (strings_in ss) ss directives in r ≡ of_rows (strings_in ss) (lines_with ss directives rows model) rows
+  found r None install later h = absurd (later.model (sym h))
+  found r (Some model) None later h = absurd (later.install (sym h))
+  found r (Some model) (Some install) later h = sym h
 
   given : (r : Result (List Param) ParamRefusal) → IsLater r → parameters_of ss id ≡ r → r ≡ of_rows (strings_in ss) (lines_for ss id) (rows_of ss id)
-  unfolding parameters_of makers rows_of
+  unfolding parameters_of rows_of
   given r later h = elim (cases_Bool (is_signed (lines_named (codes "Version") ss))) [
-    | inl on ↦ let signed = rw on at h in model-given r (model_in ss id) later refl signed
+    | inl on ↦ let signed = rw on at h in found r (model_in ss id) (install_of ss id) later signed
     | inr off ↦ let unsigned : ◌≡◌ {A = Result (List Param) ParamRefusal} (Err NoVersion) r = rw off at h in absurd (later.version (sym unsigned))
   ]
 
@@ -82,3 +65,15 @@ module _ (ss : List Section) (id : List ℕ) where
 
 pub answered : (ss : List Section) (id : List ℕ) (params : List Param) → parameters_of ss id ≡ Ok params → params ≡ params_of (strings_in ss) (rows_of ss id)
 answered ss id params h = (all-ok ss id params h).2
+
+-- ---- the line that a refusal names is the first one at fault
+
+module _ (ss : List Section) (id : List ℕ) where
+  pub no-string : (n : ℕ) → parameters_of ss id ≡ Err (NoString n) → FirstLacking ss id n
+  no-string n h = let r = all-lacking ss id n h in (r.0, r.1, earliest-some (line_lacks (strings_in ss)) (lines_for ss id) r.0 r.2)
+
+  pub bad-value : (n : ℕ) → parameters_of ss id ≡ Err (BadValue n) → LacksNone ss id × FirstBad ss id n
+  bad-value n h = let r = all-bad ss id n h in (earliest-none (line_lacks (strings_in ss)) (lines_for ss id) r.0, (r.1, r.2, earliest-some (is_bad (strings_in ss)) (rows_of ss id) r.1 r.3))
+
+  pub no-fault : (params : List Param) → parameters_of ss id ≡ Ok params → LacksNone ss id × BadNone ss id
+  no-fault params h = let r = all-ok ss id params h in (earliest-none (line_lacks (strings_in ss)) (lines_for ss id) r.0, earliest-none (is_bad (strings_in ss)) (rows_of ss id) r.1)

@@ -1,94 +1,63 @@
 -- The line that is found is the first of the file that passes.
-use Rattle.std.proofs.Common.{inl, inr, ◌⊎◌, ◌≡◌, ℕ, suc, ◌≤◌, ◌<◌, Bool, true, false, ◌&&◌, ltb, List, [], ◌∷◌, Option, None, Some, refl, sym, ap, ◌∙◌, subst, arith}
-use Rattle.std.specs.Prelude.{Contains}
+use Rattle.std.proofs.Common.{inl, inr, ◌≡◌, ℕ, ◌≤◌, Bool, true, false, ◌&&◌, ltb, List, [], ◌∷◌, ◌++◌, Option, None, Some, refl, sym, ◌∙◌, subst, arith, append_assoc}
 use Rattle.std.specs.List.{fold, list_any}
-use Rattle.std.proofs.lemmas.Bool.{cases_Bool}
+use Rattle.std.proofs.lemmas.Bool.{cases_Bool, or_parts, or_from}
 use Rattle.std.proofs.lemmas.Bool.Decides.{nat_tests}
-use Rattle.inf_file.specs.Sections.{Line}
-use Rattle.inf_file.specs.Earliest.{earlier, earlier_if, earliest, IsEarliest, IsFirst, HasNone}
+use Rattle.std.proofs.lemmas.List.{append-nil}
+use Rattle.std.proofs.lemmas.List.Folds.{list_any-append}
+use Rattle.std.proofs.lemmas.List.Elements.{Contains-push, Contains-append_left}
+use Rattle.inf_text.specs.Sections.{Line}
+use Rattle.inf_file.specs.Earliest.{earlier_if, earliest, IsEarliest, IsFirst, HasNone}
+
+none_passes : (f g : Line → Bool) → ((x : Line) → f x ≡ false → g x ≡ false) → (ls : List Line) → list_any f ls ≡ false → list_any g ls ≡ false
+none_passes f g weaker [] h = refl
+none_passes f g weaker (l ∷ ls) h = let p = or_parts (f l) (list_any f ls) h in or_from (g l) (list_any g ls) (weaker l p.0) (none_passes f g weaker ls p.1)
 
 module _ (test : Line → Bool) where
-  is_before : ℕ → Line → Bool
+  abbrev is_before : ℕ → Line → Bool
   is_before n line = test line && ltb line.number n
 
-  record IsKept (best : Line) (ls : List Line) (m : Line) : Type 0 where
-    most : m.number ≤ best.number
-    none : list_any (is_before m.number) ls ≡ false
-    there : (m ≡ best) ⊎ (Contains ls m × (test m ≡ true))
+  not_before : (n : ℕ) (line : Line) → n ≤ line.number → is_before n line ≡ false
+  not_before n line h = let off : ltb line.number n ≡ false = search (arith, nat_tests) in elim (cases_Bool (test line)) [ inl on ↦ rw (on, off) refl | inr fails ↦ rw fails refl ]
 
-  record IsFound (ls : List Line) (m : Line) : Type 0 where
-    there : Contains ls m
-    passes : test m ≡ true
-    none : list_any (is_before m.number) ls ≡ false
+  nowhere : (n : ℕ) (line : Line) → test line ≡ false → is_before n line ≡ false
+  nowhere n line h = rw h refl
 
-  not_before : (line : Line) (n : ℕ) → n ≤ line.number → is_before n line ≡ false
-  unfolding is_before
-  not_before line n h = let off : ltb line.number n ≡ false = search (arith, nat_tests) in elim (cases_Bool (test line)) [ inl on ↦ rw (on, off) refl | inr fails ↦ rw fails refl ]
-
-  nowhere : (line : Line) (n : ℕ) → test line ≡ false → is_before n line ≡ false
-  unfolding is_before
-  nowhere line n h = rw h refl
-
-  one_more : (l m : Line) (ls : List Line) → Contains ls m → Contains (l ∷ ls) m
-  one_more l m ls c = (suc c.0, omega (arith, c.1), c.2)
-
-  first_here : (l m : Line) (ls : List Line) → m ≡ l → Contains (l ∷ ls) m
-  first_here l m ls e = (0, omega arith, sym e)
-
-  from_best : (ls : List Line) (best m : Line) → fold (earlier_if test) (Some best) ls ≡ Some m → IsKept best ls m
-  from_best [] best m h = let e : best ≡ m = cc in record { most = omega (arith, ap (λ (l : Line). l.number) e); none = refl; there = inl (sym e) }
-  from_best (l ∷ ls) best m h = elim (cases_Bool (test l)) [
-    | inr off ↦
-        let h2 = rw off at h in
-        let r = from_best ls best m h2 in
-        record { most = r.most; none = rw (nowhere l m.number off) r.none; there = elim (r.there) [ inl same ↦ inl same | inr later ↦ inr (one_more l m ls later.0, later.1) ] }
-    | inl on ↦ let h1 : fold (earlier_if test) (earlier (Some best) l) ls ≡ Some m = rw on at h in elim (cases_Bool (ltb l.number best.number)) [
-      | inl less ↦
-          let h2 = rw less at h1 in
-          let r = from_best ls l m h2 in
-          let lt : l.number < best.number = grind (arith, nat_tests) in
-          record { most = omega (arith, r.most); none = rw (not_before l m.number r.most) r.none; there = elim (r.there) [ inl same ↦ inr (first_here l m ls same, ap test same ∙ on) | inr later ↦ inr (one_more l m ls later.0, later.1) ] }
-      | inr more ↦
-          let h2 = rw more at h1 in
-          let r = from_best ls best m h2 in
-          let le : best.number ≤ l.number = grind (arith, nat_tests) in
-          record { most = r.most; none = rw (not_before l m.number (omega (arith, r.most))) r.none; there = elim (r.there) [ inl same ↦ inl same | inr later ↦ inr (one_more l m ls later.0, later.1) ] }
-    ]
+  sooner : (m n : ℕ) → m ≤ n → (line : Line) → is_before n line ≡ false → is_before m line ≡ false
+  sooner m n le line h = elim (cases_Bool (test line)) [
+    | inl on ↦ let h2 : ltb line.number n ≡ false = rw on at h in let off : ltb line.number m ≡ false = grind (arith, nat_tests) in rw (on, off) refl
+    | inr off ↦ rw off refl
   ]
 
-  best_stays : (ls : List Line) (best : Line) → fold (earlier_if test) (Some best) ls ≡ None → ⊥
-  best_stays [] best h = absurd (cc)
-  best_stays (l ∷ ls) best h = elim (cases_Bool (test l)) [
-    | inr off ↦ let h2 = rw off at h in best_stays ls best h2
-    | inl on ↦ let h1 : fold (earlier_if test) (earlier (Some best) l) ls ≡ None = rw on at h in elim (cases_Bool (ltb l.number best.number)) [ inl less ↦ let h2 = rw less at h1 in best_stays ls l h2 | inr more ↦ let h2 = rw more at h1 in best_stays ls best h2 ]
+  none_more : (f : Line → Bool) (ls : List Line) (line : Line) → list_any f ls ≡ false → f line ≡ false → list_any f (ls ++ line ∷ []) ≡ false
+  none_more f ls line h k = list_any-append f ls (line ∷ []) ∙ or_from (list_any f ls) _ h (rw k refl)
+
+  kept : (ls : List Line) (m line : Line) → IsEarliest test ls m → is_before m.number line ≡ false → IsEarliest test (ls ++ line ∷ []) m
+  kept ls m line r h = record { there = Contains-append_left ls (line ∷ []) m r.there; passes = r.passes; none_before = none_more (is_before m.number) ls line r.none_before h }
+
+  taken : (ls : List Line) (line : Line) → test line ≡ true → list_any (is_before line.number) ls ≡ false → IsEarliest test (ls ++ line ∷ []) line
+  taken ls line on h = record { there = Contains-push ls line; passes = on; none_before = none_more (is_before line.number) ls line h (not_before line.number line (omega arith)) }
+
+  step : (ls : List Line) (o : Option Line) (line : Line) → IsFirst test ls o → IsFirst test (ls ++ line ∷ []) (earlier_if test o line)
+  step ls None line h = elim (cases_Bool (test line)) [
+    | inl on ↦ rw on (taken ls line on (none_passes test (is_before line.number) (nowhere line.number) ls h))
+    | inr off ↦ rw off (none_more test ls line h off)
+  ]
+  step ls (Some m) line r = elim (cases_Bool (test line)) [
+    | inl on ↦ rw on (elim (cases_Bool (ltb line.number m.number)) [
+      | inl less ↦ let le : line.number ≤ m.number = grind (arith, nat_tests) in rw less (taken ls line on (none_passes (is_before m.number) (is_before line.number) (sooner line.number m.number le) ls r.none_before))
+      | inr more ↦ let le : m.number ≤ line.number = grind (arith, nat_tests) in rw more (kept ls m line r (not_before m.number line le))
+    ])
+    | inr off ↦ rw off (kept ls m line r (nowhere m.number line off))
   ]
 
-  first : (ls : List Line) (m : Line) → fold (earlier_if test) None ls ≡ Some m → IsFound ls m
-  first [] m h = absurd (cc)
-  first (l ∷ ls) m h = elim (cases_Bool (test l)) [
-    | inr off ↦ let h2 = rw off at h in let r = first ls m h2 in record { there = one_more l m ls r.there; passes = r.passes; none = rw (nowhere l m.number off) r.none }
-    | inl on ↦
-        let h2 = rw on at h in
-        let r = from_best ls l m h2 in
-        let where_it_is : Contains (l ∷ ls) m × (test m ≡ true) = elim (r.there) [ inl same ↦ (first_here l m ls same, ap test same ∙ on) | inr later ↦ (one_more l m ls later.0, later.1) ] in
-        record { there = where_it_is.0; passes = where_it_is.1; none = rw (not_before l m.number r.most) r.none }
-  ]
-
-  none : (ls : List Line) → fold (earlier_if test) None ls ≡ None → list_any test ls ≡ false
-  none [] h = refl
-  none (l ∷ ls) h = elim (cases_Bool (test l)) [
-    | inr off ↦ let h2 = rw off at h in rw off (none ls h2)
-    | inl on ↦ let h2 = rw on at h in absurd (best_stays ls l h2)
-  ]
-
-  some_first : (ls : List Line) (o : Option Line) → fold (earlier_if test) None ls ≡ o → IsFirst test ls o
-  unfolding is_before
-  some_first ls None h = none ls h
-  some_first ls (Some m) h = let r = first ls m h in record { there = r.there; passes = r.passes; none_before = r.none }
+  steps : (ys xs : List Line) (o : Option Line) → IsFirst test xs o → IsFirst test (xs ++ ys) (fold (earlier_if test) o ys)
+  steps [] xs o h = subst (λ (ls : List Line). IsFirst test ls o) (sym (append-nil xs)) h
+  steps (y ∷ ys) xs o h = subst (λ (ls : List Line). IsFirst test ls (fold (earlier_if test) (earlier_if test o y) ys)) (append_assoc xs (y ∷ []) ys) (steps ys (xs ++ y ∷ []) (earlier_if test o y) (step xs o y h))
 
   pub earliest-is_first : (ls : List Line) → IsFirst test ls (earliest test ls)
   unfolding earliest
-  earliest-is_first ls = some_first ls (earliest test ls) refl
+  earliest-is_first ls = steps ls [] None refl
 
   pub earliest-some : (ls : List Line) (line : Line) → earliest test ls ≡ Some line → IsEarliest test ls line
   earliest-some ls line h = subst (λ (o : Option Line). IsFirst test ls o) h (earliest-is_first ls)

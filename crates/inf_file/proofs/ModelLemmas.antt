@@ -2,7 +2,7 @@
 use Rattle.std.proofs.Common.{◌≡◌, ℕ, ◌+◌, ◌<◌, ◌≤◌, List, length, drop, get_or, None, refl, ap, ◌∙◌, add-one, drop-cons}
 use Rattle.std.proofs.Math.ListN.{drop_of_length-le}
 use Rattle.std.specs.Option.{option_or}
-use Rattle.inf_file.specs.Sections.{Section}
+use Rattle.inf_text.specs.Sections.{Section}
 use Rattle.inf_file.specs.Strings.{Strings}
 use Rattle.inf_file.specs.Models.{decoration_place, decorated_place}
 

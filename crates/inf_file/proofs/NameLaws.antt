@@ -1,5 +1,5 @@
 -- Each name comes once, where its first row stands.
-use Rattle.std.proofs.Common.{inl, inr, ◌≡◌, ℕ, Bool, true, false, ◌||◌, not, List, [], ◌∷◌, ◌++◌, filter, Ok, refl, sym, ap, ◌∙◌, true≢false, arith, append_assoc}
+use Rattle.std.proofs.Common.{inl, inr, ◌≡◌, ℕ, Bool, true, false, ◌||◌, not, List, [], ◌∷◌, ◌++◌, filter, Ok, refl, sym, ap, ◌∙◌, arith, append_assoc}
 use Rattle.std.specs.Prelude.{AllPairs, if◌then◌else◌}
 use Rattle.std.specs.List.{fold, filter_map, list_any}
 use Rattle.std.proofs.lemmas.Bool.{cases_Bool}
@@ -8,27 +8,15 @@ use Rattle.std.proofs.lemmas.List.Sums.{fold-append}
 use Rattle.std.proofs.lemmas.List.Folds.{list_any-append}
 use Rattle.std.proofs.lemmas.List.Elements.{filter_passes}
 use Rattle.std.proofs.lemmas.List.Kept.{AllPairs-cons, AllPairs-filter}
-use Rattle.inf_file.specs.Sections.{Line, Section, is_same}
+use Rattle.inf_text.specs.Names.{is_same, same_laws}
+use Rattle.inf_text.specs.Sections.{Line, Section}
 use Rattle.inf_file.specs.Strings.{Strings}
 use Rattle.inf_file.specs.Rows.{with_param, with_default, saying, set_by, setting, given_default, params_of}
-use Rattle.inf_file.specs.Parameters.{parameters_of}
-use Rattle.inf_file.specs.ByName.{strings_in, rows_of, set_by_rows, defaults_by_rows, names, each_once}
+use Rattle.inf_file.specs.Parameters.{strings_in, parameters_of}
+use Rattle.inf_file.specs.ByName.{rows_of, set_by_rows, defaults_by_rows, names, each_once}
 use Rattle.inf_file.specs.declared.param.Param.{Param}
-use Rattle.inf_file.proofs.FoldLemmas.{is_same-all}
-use Rattle.inf_file.proofs.SetLaws.{is_same-congr, setting-fold}
+use Rattle.inf_file.proofs.SetLaws.{setting-fold}
 use Rattle.inf_file.proofs.AnswerLaws.{answered}
-
-pub same_itself : (a : List ℕ) → is_same a a ≡ true
-same_itself a = is_same-all a a refl (λ k lt. refl)
-
-pub same_back : (a b : List ℕ) → is_same a b ≡ true → is_same b a ≡ true
-same_back a b h = sym (is_same-congr a b a h) ∙ same_itself a
-
-pub other_back : (a b : List ℕ) → is_same a b ≡ false → is_same b a ≡ false
-other_back a b h = elim (cases_Bool (is_same b a)) [
-  | inl on ↦ absurd (true≢false (sym (same_back b a on) ∙ h))
-  | inr off ↦ off
-]
 
 -- ---- names put one behind the other
 
@@ -84,7 +72,7 @@ name-new (m ∷ ms) n h = elim (cases_Bool (is_same n m)) [
 known-congr : (ns : List (List ℕ)) (a b : List ℕ) → is_same a b ≡ true → known ns a ≡ known ns b
 unfolding known
 known-congr [] a b h = refl
-known-congr (m ∷ ms) a b h = rw (is_same-congr a b m h, known-congr ms a b h) refl
+known-congr (m ∷ ms) a b h = rw (same_laws.congr a b m h, known-congr ms a b h) refl
 
 known-push : (ns : List (List ℕ)) (n x : List ℕ) → known (ns ++ n ∷ []) x ≡ (known ns x || (is_same x n || false))
 unfolding known
@@ -110,8 +98,8 @@ others-known ns n h x = elim (cases_Bool (is_same n x)) [
 others-new : (ns : List (List ℕ)) (n x : List ℕ) → (if not (is_same n x) then is_new ns x else false) ≡ is_new (ns ++ n ∷ []) x
 unfolding is_new
 others-new ns n x = rw known-push (elim (cases_Bool (is_same n x)) [
-  | inl on ↦ rw (on, same_back n x on) (elim (cases_Bool (known ns x)) [ inl k ↦ rw k refl | inr k ↦ rw k refl ])
-  | inr off ↦ rw (off, other_back n x off) (elim (cases_Bool (known ns x)) [ inl k ↦ rw k refl | inr k ↦ rw k refl ])
+  | inl on ↦ rw (on, same_laws.symm x n ∙ on) (elim (cases_Bool (known ns x)) [ inl k ↦ rw k refl | inr k ↦ rw k refl ])
+  | inr off ↦ rw (off, same_laws.symm x n ∙ off) (elim (cases_Bool (known ns x)) [ inl k ↦ rw k refl | inr k ↦ rw k refl ])
 ])
 
 once-known : (before ns : List (List ℕ)) (n : List ℕ) → known before n ≡ true → filter (is_new before) (each_once (n ∷ ns)) ≡ filter (is_new before) (each_once ns)

@@ -1,10 +1,10 @@
 -- Digits one after the other.
-use Rattle.std.proofs.Common.{◌≡◌, ℕ, ◌+◌, ◌*◌, ◌^◌, ◌<◌, ◌≤◌, true, false, eqb, ltb, List, [], ◌∷◌, length, drop, get_or, Some, None, refl, sym, ap, ◌∙◌, inl, inr, arith, drop-cons, add-one}
+use Rattle.std.proofs.Common.{◌≡◌, ℕ, ◌+◌, ◌*◌, ◌^◌, ◌<◌, ◌≤◌, true, false, ltb, List, [], ◌∷◌, length, drop, get_or, Some, None, refl, sym, ap, ◌∙◌, inl, inr, arith, drop-cons, add-one}
 use Rattle.std.proofs.Math.ListN.{drop_of_length-le}
 use Rattle.std.proofs.Math.Nat.{mul-le-mul_left}
 use Rattle.std.proofs.lemmas.Bool.{cases_Bool}
 use Rattle.std.proofs.lemmas.Bool.Decides.{nat_tests}
-use Rattle.inf_file.specs.Numbers.{digit_value, digits_after, below_4g, digits}
+use Rattle.inf_file.specs.Numbers.{digit_value, digits_after, below_4g}
 
 grows : (base n d : ℕ) → 1 ≤ base → 2 ^ 32 ≤ n → 2 ^ 32 ≤ n * base + d
 grows base n d one h = omega (arith, mul-le-mul_left n one)
@@ -25,16 +25,6 @@ pub digit_stop : (base v i : ℕ) (w : List ℕ) → i < length w → base ≤ d
 unfolding digits_after
 digit_stop base v i w lt off = let off2 : ltb (digit_value (get_or w i 0)) base ≡ false = search (arith, nat_tests) in ap (digits_after base v) (drop-cons w i 0 lt) ∙ rw off2 refl
 
-pub digits_is : (base : ℕ) (w : List ℕ) → 0 < length w → digits base w ≡ below_4g (digits_after base 0 w)
-unfolding digits
-digits_is base [] h = absurd (omega arith)
-digits_is base (c ∷ cs) h = refl
-
-pub no_digits : (base : ℕ) (w : List ℕ) → length w ≡ 0 → digits base w ≡ None
-unfolding digits
-no_digits base [] h = refl
-no_digits base (c ∷ cs) h = absurd (omega arith)
-
 no_more : (base v : ℕ) → digits_after base v [] ≡ Some v
 unfolding digits_after
 no_more base v = refl
@@ -43,7 +33,3 @@ pub read_all : (base v i : ℕ) (w : List ℕ) → length w ≤ i → v < 2 ^ 32
 read_all base v i w le lt h =
     let on : ltb v (2 ^ 32) ≡ true = search (arith, nat_tests) in
     ap below_4g (sym h ∙ ap (digits_after base v) (drop_of_length-le w le) ∙ no_more base v) ∙ rw on refl
-
-pub some_left : (s : List ℕ) → false ≡ eqb (length s) 0 → 0 < length s
-some_left [] e = absurd cc
-some_left (b ∷ s) e = omega arith

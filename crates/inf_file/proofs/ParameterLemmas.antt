@@ -1,30 +1,21 @@
 -- Sections that are read again between their first and their last reading change no part of the answer.
-use Rattle.std.proofs.Common.{◌≡◌, ℕ, ◌+◌, ◌<◌, Bool, List, [], ◌∷◌, ◌++◌, length, map, take, get_or, Option, None, Some, Result, sym, ap, ◌∙◌}
+use Rattle.std.proofs.Common.{◌≡◌, ℕ, ◌+◌, ◌<◌, Bool, List, [], ◌∷◌, ◌++◌, length, map, take, get_or, Option, None, sym, ap, ◌∙◌}
 use Rattle.std.specs.List.{fold, flat_map, filter_map}
 use Rattle.std.proofs.lemmas.List.{append-nil, map-append}
 use Rattle.std.proofs.lemmas.List.Concat.{flat_map-cons}
 use Rattle.std.proofs.lemmas.List.Elements.{filter_map-append}
 use Rattle.std.proofs.lemmas.Grind.{flat_map-append}
-use Rattle.std.specs.Prelude.{codes}
-use Rattle.inf_file.specs.Sections.{Line, Section, place_named, lines_at, lines_named}
+use Rattle.inf_text.specs.Sections.{Line, Section, place_named, lines_at}
 use Rattle.inf_file.specs.Strings.{Strings, replaced, line_lacks}
-use Rattle.inf_file.specs.Models.{model_of, install_place}
 use Rattle.inf_file.specs.Rows.{is_bad, params_of}
 use Rattle.inf_file.specs.Earliest.{earlier_if, earliest}
-use Rattle.inf_file.specs.Parameters.{named_places, reg_places, lines_of_all, lines_read, unless_bad, unless_lacking, of_rows, of_lines, of_install, of_model, of_strings}
+use Rattle.inf_file.specs.Parameters.{named_places, reg_places, lines_of_all, lines_read, unless_bad, unless_lacking, of_rows}
 use Rattle.inf_file.specs.Repeats.{thinned}
 use Rattle.inf_file.specs.declared.param.Param.{Param}
-use Rattle.inf_file.specs.declared.param.ParamRefusal.{ParamRefusal}
 use Rattle.inf_file.proofs.ListLemmas.{take_item, fold-all}
 use Rattle.inf_file.proofs.RepeatFolds.{fold-thinned}
 use Rattle.inf_file.proofs.RepeatLaws.{earlier_if-once, earlier_if-still}
 use Rattle.inf_file.proofs.SetLaws.{params_of-thinned}
-
-pub of_strings-lines : (s : Strings) (ss : List Section) (id : List ℕ) (makers : List Line) (model : Line) (install : ℕ) (lines : List Line) → makers ≡ lines_named (codes "Manufacturer") ss
-    → model_of s ss makers id ≡ Some model → install_place s ss model ≡ Some install → lines ≡ lines_at ss install → of_lines s ss makers model lines ≡ of_strings s ss id
-of_strings-lines s ss id makers model install lines m p q l =
-    ap (of_lines s ss makers model) l ∙ ap (of_install s ss makers model) (sym q) ∙ ap (of_model s ss makers) (sym p)
-    ∙ ap (λ (ms : List Line). of_model s ss ms (model_of s ss ms id)) m
 
 module _ (ss : List Section) (places : List ℕ) where
   fold-once : (test : Line → Bool) (b : Option Line) → fold (earlier_if test) b (lines_of_all ss (thinned [] places)) ≡ fold (earlier_if test) b (lines_of_all ss places)

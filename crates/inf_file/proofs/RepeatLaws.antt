@@ -2,12 +2,14 @@
 use Rattle.std.proofs.Common.{inl, inr, ◌≡◌, ◌≤◌, Bool, false, ltb, List, [], ◌∷◌, Option, None, Some, refl, sym, ap, ◌∙◌, arith, true≢false}
 use Rattle.std.proofs.lemmas.Bool.{cases_Bool}
 use Rattle.std.proofs.lemmas.Bool.Decides.{nat_tests}
-use Rattle.inf_file.specs.Sections.{Line}
+use Rattle.inf_text.specs.Sections.{Line}
 use Rattle.inf_file.specs.Earliest.{earlier, earlier_if}
 use Rattle.inf_file.specs.Rows.{with_default}
 use Rattle.inf_file.specs.declared.param.Param.{Param}
-use Rattle.inf_file.proofs.FoldLemmas.{is_same-all}
-use Rattle.inf_file.proofs.ParamLemmas.{has_name}
+use Rattle.inf_text.specs.Names.{is_same, same_laws}
+
+abbrev has_name : Param → Param → Bool
+has_name p q = is_same p.name q.name
 
 earlier-once : (b : Option Line) (x : Line) → earlier (earlier b x) x ≡ earlier b x
 earlier-once None x = elim (cases_Bool (ltb x.number x.number)) [ inl on ↦ rw on refl | inr off ↦ rw off refl ]
@@ -38,7 +40,7 @@ module _ (test : Line → Bool) where
 
 pub with_default-once : (ps : List Param) (p : Param) → with_default (with_default ps p) p ≡ with_default ps p
 unfolding with_default
-with_default-once [] p = rw (is_same-all p.name p.name refl (λ k lt. refl)) refl
+with_default-once [] p = rw (same_laws.refl p.name) refl
 with_default-once (q ∷ qs) p = elim (cases_Bool (has_name p q)) [
   | inl on ↦ rw on (rw on refl)
   | inr off ↦ rw off (rw off (ap (λ (rest : List Param). q ∷ rest) (with_default-once qs p)))

@@ -1,40 +1,28 @@
 -- A parameter that is set again and again: its last value counts.
-use Rattle.std.proofs.Common.{inl, inr, ◌⊎◌, ◌≡◌, ℕ, Bool, true, false, nat_eq, List, [], ◌∷◌, ◌++◌, Option, None, Some, refl, sym, ap, ◌∙◌, true≢false, subst}
+use Rattle.std.proofs.Common.{inl, inr, ◌≡◌, ℕ, Bool, true, false, nat_eq, List, [], ◌∷◌, ◌++◌, Option, None, Some, refl, sym, ap, ◌∙◌, true≢false, subst}
 use Rattle.std.specs.List.{fold, filter_map, cons_option, flat_map, list_any, AllByRecursion}
 use Rattle.std.proofs.lemmas.Bool.{cases_Bool, eqb-true}
-use Rattle.std.proofs.lemmas.Slice.Eq.{bytes_eq-Decides}
+use Rattle.std.proofs.lemmas.List.Folds.{list_any-append}
 use Rattle.std.proofs.lemmas.List.Concat.{flat_map-cons}
-use Rattle.std.specs.Str.{bytes_eq}
-use Rattle.inf_file.specs.Sections.{Line, folded, is_same}
+use Rattle.inf_text.specs.Names.{is_same, same_laws}
+use Rattle.inf_text.specs.Sections.{Line}
 use Rattle.inf_file.specs.Strings.{Strings}
 use Rattle.inf_file.specs.Rows.{with_param, with_default, saying, set_by, set_some, setting, given_default, params_of}
 use Rattle.inf_file.specs.Repeats.{is_among, thinned}
 use Rattle.inf_file.specs.declared.param.Param.{Param}
-use Rattle.inf_file.proofs.FoldLemmas.{is_same-all}
-use Rattle.inf_file.proofs.ParamLemmas.{has_name}
 use Rattle.inf_file.proofs.ListLemmas.{fold-flat, filter_map-flat}
 use Rattle.inf_file.proofs.RepeatFolds.{thinned-from, fold-thinned}
 use Rattle.inf_file.proofs.RepeatLaws.{with_default-once, with_default-still}
 
-pub same_folded : (a b : List ℕ) → is_same a b ≡ true → folded a ≡ folded b
-unfolding is_same
-same_folded a b h = (bytes_eq-Decides (folded a) (folded b)).0 h
-
--- texts that are the same are the same as each other text
-pub is_same-congr : (a b t : List ℕ) → is_same a b ≡ true → is_same a t ≡ is_same b t
-unfolding is_same
-is_same-congr a b t h = ap (λ (x : List ℕ). bytes_eq x (folded t)) (same_folded a b h)
-
-pub same_both : (a b t : List ℕ) → is_same a t ≡ true → is_same b t ≡ true → is_same a b ≡ true
-unfolding is_same
-same_both a b t h k = (bytes_eq-Decides (folded a) (folded b)).1 (same_folded a t h ∙ sym (same_folded b t k))
+abbrev pub has_name : Param → Param → Bool
+has_name p q = is_same p.name q.name
 
 abbrev is_there : List Param → Param → Bool
 is_there ps p = list_any (has_name p) ps
 
 there_now : (ps : List Param) (p : Param) → is_there (with_param ps p) p ≡ true
 unfolding with_param
-there_now [] p = rw (is_same-all p.name p.name refl (λ k lt. refl)) refl
+there_now [] p = rw (same_laws.refl p.name) refl
 there_now (q ∷ qs) p = elim (cases_Bool (has_name p q)) [
   | inl on ↦ rw on (rw on refl)
   | inr off ↦ rw off (rw off (there_now qs p))
@@ -53,8 +41,8 @@ replaces : (ps : List Param) (p q : Param) → is_same p.name q.name ≡ true �
 unfolding with_param
 replaces [] p q s h = absurd cc
 replaces (r ∷ rs) p q s h = elim (cases_Bool (has_name p r)) [
-  | inl on ↦ let on2 : has_name q r ≡ true = sym (is_same-congr p.name q.name r.name s) ∙ on in rw on (rw on2 refl)
-  | inr off ↦ let off2 : has_name q r ≡ false = sym (is_same-congr p.name q.name r.name s) ∙ off in let h2 = rw off at h in rw (off, off2) (ap (λ (rest : List Param). r ∷ rest) (replaces rs p q s h2))
+  | inl on ↦ let on2 : has_name q r ≡ true = sym (same_laws.congr p.name q.name r.name s) ∙ on in rw on (rw on2 refl)
+  | inr off ↦ let off2 : has_name q r ≡ false = sym (same_laws.congr p.name q.name r.name s) ∙ off in let h2 = rw off at h in rw (off, off2) (ap (λ (rest : List Param). r ∷ rest) (replaces rs p q s h2))
 ]
 
 -- values of two names may change places
@@ -63,7 +51,7 @@ unfolding with_param
 commutes [] p q s h = absurd cc
 commutes (r ∷ rs) p q s h = elim (cases_Bool (has_name p r)) [
   | inl on ↦ elim (cases_Bool (has_name q r)) [
-    | inl on2 ↦ absurd (true≢false (sym (same_both p.name q.name r.name on on2) ∙ s))
+    | inl on2 ↦ absurd (true≢false (sym (same_laws.congr p.name r.name q.name on ∙ same_laws.symm r.name q.name ∙ on2) ∙ s))
     | inr off ↦ rw (on, off) (rw on refl)
   ]
   | inr off ↦ let h2 = rw off at h in elim (cases_Bool (has_name q r)) [
@@ -72,31 +60,20 @@ commutes (r ∷ rs) p q s h = elim (cases_Bool (has_name p r)) [
   ]
 ]
 
--- a parameter is among others
-abbrev Occurs : Param → List Param → Type 0
-Occurs p [] = ⊥
-Occurs p (q ∷ qs) = (p ≡ q) ⊎ Occurs p qs
-
-dead : (qs ps : List Param) (p : Param) → is_there ps p ≡ true → Occurs p qs → fold with_param (with_param ps p) qs ≡ fold with_param ps qs
-dead [] ps p h o = absurd o
+-- a value that is set again later
+dead : (qs ps : List Param) (p : Param) → is_there ps p ≡ true → is_there qs p ≡ true → fold with_param (with_param ps p) qs ≡ fold with_param ps qs
+dead [] ps p h o = absurd cc
 dead (q ∷ qs) ps p h o = elim (cases_Bool (is_same p.name q.name)) [
   | inl on ↦ ap (λ (rs : List Param). fold with_param rs qs) (replaces ps p q on h)
-  | inr off ↦ elim o [
-    | inl same ↦ absurd (true≢false (sym (is_same-all p.name p.name refl (λ k lt. refl)) ∙ ap (λ (r : Param). is_same p.name r.name) same ∙ off))
-    | inr later ↦ ap (λ (rs : List Param). fold with_param rs qs) (commutes ps p q off h) ∙ dead qs (with_param ps q) p (there_still ps p q h) later
-  ]
+  | inr off ↦ let o2 = rw off at o in ap (λ (rs : List Param). fold with_param rs qs) (commutes ps p q off h) ∙ dead qs (with_param ps q) p (there_still ps p q h) o2
 ]
 
 abbrev AllThere : List Param → List Param → Type 0
 AllThere ps qs = AllByRecursion (λ q. is_there ps q ≡ true) qs
 
-all_still : (qs ps : List Param) (p : Param) → AllThere ps qs → AllThere (with_param ps p) qs
-all_still [] ps p h = tt
-all_still (q ∷ qs) ps p h = (there_still ps q p h.0, all_still qs ps p h.1)
-
-all_on : (rs qs ps : List Param) → AllThere ps qs → AllThere (fold with_param ps rs) qs
-all_on [] qs ps h = h
-all_on (r ∷ rs) qs ps h = all_on rs qs (with_param ps r) (all_still qs ps r h)
+all_there : (ps rs qs : List Param) → ((q : Param) → is_there ps q ≡ true → is_there rs q ≡ true) → AllThere ps qs → AllThere rs qs
+all_there ps rs [] f h = tt
+all_there ps rs (q ∷ qs) f h = (f q h.0, all_there ps rs qs f h.1)
 
 there_on : (rs ps : List Param) (p : Param) → is_there ps p ≡ true → is_there (fold with_param ps rs) p ≡ true
 there_on [] ps p h = h
@@ -106,49 +83,33 @@ all_now : (qs ps : List Param) → AllThere (fold with_param ps qs) qs
 all_now [] ps = tt
 all_now (q ∷ qs) ps = (there_on qs (with_param ps q) q (there_now ps q), all_now qs (with_param ps q))
 
-abbrev AllOccur : List Param → List Param → Type 0
-AllOccur qs rs = AllByRecursion (λ q. Occurs q rs) qs
-
-all_dead : (qs rs ps : List Param) → AllThere ps qs → AllOccur qs rs → fold with_param (fold with_param ps qs) rs ≡ fold with_param ps rs
+all_dead : (qs rs ps : List Param) → AllThere ps qs → AllThere rs qs → fold with_param (fold with_param ps qs) rs ≡ fold with_param ps rs
 all_dead [] rs ps h o = refl
-all_dead (q ∷ qs) rs ps h o = all_dead qs rs (with_param ps q) (all_still qs ps q h.1) o.1 ∙ dead rs ps q h.0 o.0
+all_dead (q ∷ qs) rs ps h o = all_dead qs rs (with_param ps q) (all_there ps (with_param ps q) qs (λ r k. there_still ps r q k) h.1) o.1 ∙ dead rs ps q h.0 o.0
 
-occurs_right : (p : Param) (qs rs : List Param) → Occurs p rs → Occurs p (qs ++ rs)
-occurs_right p [] rs o = o
-occurs_right p (q ∷ qs) rs o = inr (occurs_right p qs rs o)
+there_left : (ps qs : List Param) (p : Param) → is_there ps p ≡ true → is_there (ps ++ qs) p ≡ true
+there_left ps qs p h = list_any-append (has_name p) ps qs ∙ rw h refl
 
-occurs_left : (p : Param) (qs rs : List Param) → Occurs p qs → Occurs p (qs ++ rs)
-occurs_left p [] rs o = absurd o
-occurs_left p (q ∷ qs) rs o = elim o [ inl same ↦ inl same | inr later ↦ inr (occurs_left p qs rs later) ]
+there_right : (ps qs : List Param) (p : Param) → is_there qs p ≡ true → is_there (ps ++ qs) p ≡ true
+there_right [] qs p h = h
+there_right (r ∷ rs) qs p h = elim (cases_Bool (has_name p r)) [ inl on ↦ rw on refl | inr off ↦ rw off (there_right rs qs p h) ]
 
-all_left : (ps qs rs : List Param) → AllOccur ps qs → AllOccur ps (qs ++ rs)
-all_left [] qs rs o = tt
-all_left (p ∷ ps) qs rs o = (occurs_left p qs rs o.0, all_left ps qs rs o.1)
-
-all_right : (ps qs rs : List Param) → AllOccur ps rs → AllOccur ps (qs ++ rs)
-all_right [] qs rs o = tt
-all_right (p ∷ ps) qs rs o = (occurs_right p qs rs o.0, all_right ps qs rs o.1)
-
-all_more : (ps rs : List Param) (r : Param) → AllOccur ps rs → AllOccur ps (r ∷ rs)
-all_more [] rs r o = tt
-all_more (p ∷ ps) rs r o = (inr o.0, all_more ps rs r o.1)
-
-all_itself : (ps : List Param) → AllOccur ps ps
+all_itself : (ps : List Param) → AllThere ps ps
 all_itself [] = tt
-all_itself (p ∷ ps) = (inl refl, all_more ps ps p (all_itself ps))
+all_itself (p ∷ ps) = (rw (same_laws.refl p.name) refl, all_there ps (p ∷ ps) ps (λ q h. there_right (p ∷ []) ps q h) (all_itself ps))
 
 module _ (at : ℕ → List Param) where
-  all_among : (p : ℕ) (places : List ℕ) → is_among p places ≡ true → AllOccur (at p) (flat_map at places)
+  all_among : (p : ℕ) (places : List ℕ) → is_among p places ≡ true → AllThere (flat_map at places) (at p)
   all_among p [] h = absurd cc
-  all_among p (q ∷ qs) h = subst (AllOccur (at p)) (sym (flat_map-cons at q qs)) (elim (cases_Bool (nat_eq p q)) [
-    | inl on ↦ all_left (at p) (at q) (flat_map at qs) (subst (λ (r : ℕ). AllOccur (at p) (at r)) (eqb-true p q on) (all_itself (at p)))
-    | inr off ↦ let h2 = rw off at h in all_right (at p) (at q) (flat_map at qs) (all_among p qs h2)
+  all_among p (q ∷ qs) h = subst (λ (all : List Param). AllThere all (at p)) (sym (flat_map-cons at q qs)) (elim (cases_Bool (nat_eq p q)) [
+    | inl on ↦ subst (λ (r : ℕ). AllThere (at r ++ flat_map at qs) (at p)) (eqb-true p q on) (all_there (at p) (at p ++ flat_map at qs) (at p) (λ r k. there_left (at p) (flat_map at qs) r k) (all_itself (at p)))
+    | inr off ↦ let h2 = rw off at h in all_there (flat_map at qs) (at q ++ flat_map at qs) (at p) (λ r k. there_right (at q) (flat_map at qs) r k) (all_among p qs h2)
   ])
 
   pub set-thinned : (ps : List Param) (places : List ℕ) → fold with_param ps (flat_map at (thinned [] places)) ≡ fold with_param ps (flat_map at places)
   set-thinned ps places =
       sym (fold-flat with_param at ps (thinned [] places))
-      ∙ thinned-from (λ c p. fold with_param c (at p)) (λ p c. AllThere c (at p)) (λ p c. all_now (at p) c) (λ p q c h. all_on (at q) (at p) c h)
+      ∙ thinned-from (λ c p. fold with_param c (at p)) (λ p c. AllThere c (at p)) (λ p c. all_now (at p) c) (λ p q c h. all_there c (fold with_param c (at q)) (at p) (λ r k. there_on (at q) c r k) h)
       (λ p qs c h is. fold-flat with_param at (fold with_param c (at p)) qs ∙ all_dead (at p) (flat_map at qs) c h (all_among p qs is) ∙ sym (fold-flat with_param at c qs)) [] places ps (λ p is. absurd cc)
       ∙ fold-flat with_param at ps places
 

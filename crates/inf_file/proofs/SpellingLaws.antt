@@ -134,7 +134,9 @@ digits-spelled : (base : ℕ) (cs : List ℕ) (n : ℕ) → base ≤ 16 → digi
 unfolding digits
 digits-spelled base [] n le h = absurd (cc)
 digits-spelled base (c ∷ cs) n le h =
-    let b = below-some (digits_after base 0 (c ∷ cs)) n h in
+    let some : eqb (suc (length cs)) 0 ≡ false = search (arith, nat_tests) in
+    let h2 = rw some at h in
+    let b = below-some (digits_after base 0 (c ∷ cs)) n h2 in
     let r = read base (c ∷ cs) 0 n le b.0 in
     (b.1, record { digits = r.ds; some = some_digit base c cs r.ds r.are; each = r.are; value = omega (arith, r.value) })
 
@@ -145,7 +147,8 @@ from_digits base [] (d ∷ ds) n le lt some a v = absurd a
 from_digits base (c ∷ cs) ds n le lt some a v =
     let e : 0 * base ^ length ds + place_value base ds ≡ n = omega arith in
     let on : ltb n (2 ^ 32) ≡ true = search (arith, nat_tests) in
-    ap below_4g (spelled base (c ∷ cs) ds 0 le a ∙ ap (λ (m : ℕ). Some m) e) ∙ rw on refl
+    let more : eqb (suc (length cs)) 0 ≡ false = search (arith, nat_tests) in
+    rw more (ap below_4g (spelled base (c ∷ cs) ds 0 le a ∙ ap (λ (m : ℕ). Some m) e) ∙ rw on refl)
 
 spelled-digits : (base : ℕ) (cs : List ℕ) (n : ℕ) → base ≤ 16 → n < 2 ^ 32 → Spells base cs n → digits base cs ≡ Some n
 spelled-digits base cs n le lt s = from_digits base cs s.digits n le lt s.some s.each s.value

@@ -1,11 +1,11 @@
 -- How keys between percent signs are replaced, and which string a key has.
-use Rattle.std.proofs.Common.{inl, inr, ◌≡◌, ℕ, ◌≤◌, List, [], ◌∷◌, ◌++◌, length, Option, None, Some, refl, sym, ap, ◌∙◌, arith}
+use Rattle.std.proofs.Common.{inl, inr, ◌≡◌, ℕ, List, [], ◌∷◌, ◌++◌, length, Option, None, Some, refl, ap, ◌∙◌, arith}
 use Rattle.std.specs.Prelude.{if◌then◌else◌}
-use Rattle.std.specs.List.{All, fold, find, slice_split}
+use Rattle.std.specs.List.{fold, find}
 use Rattle.std.specs.Option.{option_map, option_or}
 use Rattle.std.proofs.lemmas.Bool.{cases_Bool}
 use Rattle.std.proofs.lemmas.List.Splits.{slice_split_at, slice_split_none}
-use Rattle.inf_file.specs.Sections.{Line, has_key, value_at}
+use Rattle.inf_text.specs.Sections.{Line, has_key, value_at}
 use Rattle.inf_file.specs.Strings.{Strings, no_strings, with_string, strings_of, is_percent, meaning, replaced, HasNoPercent}
 use Rattle.inf_file.proofs.StringLemmas.{replaced-key, replaced-last}
 

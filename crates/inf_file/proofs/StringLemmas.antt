@@ -1,20 +1,19 @@
--- Strings under their folded keys, and the parts of a text between percent signs.
-use Rattle.std.proofs.Common.{inl, inr, ◌≡◌, ℕ, suc, ◌+◌, ◌<◌, ◌≤◌, Bool, true, false, not, cond, ◌&&◌, ◌||◌, List, [], ◌∷◌, ◌++◌, length, Option, None, Some, is_some, refl, sym, ap, subst, ◌∙◌, arith, append_assoc, Vec, take, drop, ltb}
+-- Strings under their keys, and the parts of a text between percent signs.
+use Rattle.std.proofs.Common.{inl, inr, ◌≡◌, ℕ, suc, ◌+◌, ◌<◌, ◌≤◌, Bool, true, false, ◌||◌, List, [], ◌∷◌, ◌++◌, length, Option, None, Some, is_some, refl, sym, ap, subst, ◌∙◌, arith, append_assoc, take, drop, ltb}
+use Rattle.std.specs.Prelude.{if◌then◌else◌}
 use Rattle.std.proofs.lemmas.List.{append-nil}
-use Rattle.std.specs.List.{slice_split, onto_first, position_or_len, position, list_all, join_with_byte}
+use Rattle.std.specs.List.{slice_split, onto_first, position_or_len, position, join_with_byte}
 use Rattle.std.specs.Option.{option_or}
 use Rattle.std.specs.Map.{lookup}
-use Rattle.std.specs.Str.{bytes_eq}
-use Rattle.std.specs.declared.alloc.Global.{Global}
-use Rattle.std.specs.Cmp.Lexicographic.{same_text}
 use Rattle.std.proofs.lemmas.Bool.{cases_Bool}
 use Rattle.std.proofs.lemmas.List.Splits.{join_with_byte-slice_split, length-slice_split, slice_split_first, slice_split-cons_no}
 use Rattle.std.proofs.lemmas.Bool.Decides.{nat_tests}
 use Rattle.std.proofs.lemmas.Option.{cond_some}
-use Rattle.inf_file.specs.Sections.{Line, folded, is_same, has_key, value_at}
-use Rattle.inf_file.specs.Keyed.{units_of, string_under, string_in, or_string}
-use Rattle.inf_file.specs.Strings.{Strings, no_strings, with_string, is_percent, is_digit, or_self, meaning, behind_percent, replaced_parts, replaced, is_missing, asks_in, asks_behind, lacks_string}
-use Rattle.inf_file.proofs.TableLemmas.{has_units}
+use Rattle.indexmap.specs.IndexMap.{insert_entry}
+use Rattle.inf_text.specs.Names.{is_same, same_laws}
+use Rattle.inf_text.specs.Sections.{Line, has_key, value_at}
+use Rattle.inf_file.specs.Keyed.{string_in, or_string}
+use Rattle.inf_file.specs.Strings.{Strings, no_strings, with_string, is_percent, meaning, behind_percent, replaced_parts, replaced, is_missing, asks_in, asks_behind, lacks_string}
 
 fun_ext : {A B : Type 0} {f g : A → B} → ((x : A) → f x ≡ g x) → f ≡ g
 fun_ext h = λ i x. h x i
@@ -43,54 +42,10 @@ uncut p bs h = elim (cases_Bool (ltb (position_or_len p bs) (length bs))) [
   | inr off ↦ let le : length bs ≤ position_or_len p bs = grind (arith, nat_tests) in whole p bs le
 ]
 
--- ---- keys
-
-pub meaning-nil : (s : Strings) (key : List ℕ) → length key ≡ 0 → meaning s key ≡ 37 ∷ []
-unfolding meaning
-meaning-nil s [] h = refl
-meaning-nil s (c ∷ cs) h = absurd (omega arith)
-
-pub meaning-key : (s : Strings) (key : List ℕ) → 0 < length key → meaning s key ≡ or_self key (s key)
-unfolding meaning
-meaning-key s [] h = absurd (omega arith)
-meaning-key s (c ∷ cs) h = refl
-
-pub is_missing-nil : (s : Strings) (key : List ℕ) → length key ≡ 0 → is_missing s key ≡ false
-unfolding is_missing
-is_missing-nil s [] h = refl
-is_missing-nil s (c ∷ cs) h = absurd (omega arith)
-
-and_false : (b : Bool) → (b && false) ≡ false
-and_false true = refl
-and_false false = refl
-
-and_true : (b : Bool) → (b && true) ≡ b
-and_true true = refl
-and_true false = refl
-
-pub is_missing-number : (s : Strings) (key : List ℕ) → list_all is_digit key ≡ true → is_missing s key ≡ false
-unfolding is_missing
-is_missing-number s [] h = refl
-is_missing-number s (c ∷ cs) h = ap (λ b. not (is_some (s (c ∷ cs))) && not b) h ∙ and_false _
-
-pub is_missing-key : (s : Strings) (key : List ℕ) → 0 < length key → list_all is_digit key ≡ false → is_missing s key ≡ not (is_some (s key))
-unfolding is_missing
-is_missing-key s [] lt h = absurd (omega arith)
-is_missing-key s (c ∷ cs) lt h = ap (λ b. not (is_some (s (c ∷ cs))) && not b) h ∙ and_true _
-
 -- ---- the table
 
-found : (units : List ℕ) (es : List (Vec ℕ Global × List ℕ)) → lookup (has_units units) es ≡ string_under units (units_of es)
-unfolding string_under
-found units [] = refl
-found units (e ∷ es) = ap (cond (bytes_eq units e.0.items) (Some e.1)) (found units es)
-
-pub lookup-units : (units key : List ℕ) (es : List (Vec ℕ Global × List ℕ)) → units ≡ folded key → lookup (has_units units) es ≡ string_in (units_of es) key
-unfolding string_in string_under
-lookup-units units key es p = found units es ∙ ap (λ (u : List ℕ). string_under u (units_of es)) p
-
-pub no_strings-in : (es : List (Vec ℕ Global × List ℕ)) → es ≡ [] → string_in (units_of es) ≡ no_strings
-unfolding string_in string_under
+pub no_strings-in : (es : List (List ℕ × List ℕ)) → es ≡ [] → string_in es ≡ no_strings
+unfolding string_in
 no_strings-in [] h = fun_ext (λ key. refl)
 no_strings-in (e ∷ es) h = absurd cc
 
@@ -106,41 +61,34 @@ pub with_string-some : (s : Strings) (line : Line) (key : List ℕ) → line.key
 unfolding has_key
 with_string-some s line key h = fun_ext (λ asked. rw h refl)
 
-same_keys : (a b : List ℕ) → is_same a b ≡ true → folded a ≡ folded b
-unfolding is_same
-same_keys a b h = same_text (folded a) (folded b) (sym h)
+-- keys that are the same have one string
+same_string : (es : List (List ℕ × List ℕ)) (a b : List ℕ) → is_same a b ≡ true → lookup (is_same a) es ≡ lookup (is_same b) es
+same_string [] a b h = refl
+same_string (e ∷ es) a b h = rw (same_laws.congr a b e.0 h, same_string es a b h) refl
 
-stays : (table : List (List ℕ × List ℕ)) (key text asked : List ℕ) (b : Bool) → is_some (string_in table key) ≡ true → is_same asked key ≡ b → string_in table asked ≡ option_or (string_in table asked) (cond b (Some text) None)
+-- a key that is there keeps its string
+pub or_string-old : (es : List (List ℕ × List ℕ)) (key text : List ℕ) → is_some (lookup (is_same key) es) ≡ true → string_in es ≡ or_string (string_in es) key text
 unfolding string_in
-stays table key text asked false there same = or_none _
-stays table key text asked true there same = kept (string_in table asked) (ap (λ (u : List ℕ). is_some (string_under u table)) (same_keys asked key same) ∙ there)
+or_string-old es key text there = fun_ext (λ asked. elim (cases_Bool (is_same asked key)) [
+  | inl on ↦ rw on (kept (lookup (is_same asked) es) (ap (λ (o : Option (List ℕ)). is_some o) (same_string es asked key on) ∙ there))
+  | inr off ↦ rw off (or_none _)
+])
   where
     kept : (o : Option (List ℕ)) → is_some o ≡ true → o ≡ option_or o (Some text)
     kept None h = absurd cc
     kept (Some x) h = refl
 
--- a key that is there keeps its string
-pub or_string-old : (table : List (List ℕ × List ℕ)) (key text : List ℕ) → is_some (string_in table key) ≡ true → string_in table ≡ or_string (string_in table) key text
-or_string-old table key text there = fun_ext (λ asked. stays table key text asked (is_same asked key) there refl)
-
-under-push : (units : List ℕ) (ps : List (List ℕ × List ℕ)) (p : List ℕ × List ℕ) → string_under units (ps ++ p ∷ []) ≡ option_or (string_under units ps) (cond (bytes_eq units p.0) (Some p.1) None)
-unfolding string_under
-under-push units [] p = refl
-under-push units (q ∷ qs) p = elim (cases_Bool (bytes_eq units q.0)) [
-  | inl on ↦ rw on refl
-  | inr off ↦ rw off (under-push units qs p)
-]
-
-units_of-push : (es : List (Vec ℕ Global × List ℕ)) (k : Vec ℕ Global) (v : List ℕ) → units_of (es ++ (k, v) ∷ []) ≡ units_of es ++ (k.items, v) ∷ []
-units_of-push [] k v = refl
-units_of-push (e ∷ es) k v = ap (λ (rest : List (List ℕ × List ℕ)). (e.0.items, e.1) ∷ rest) (units_of-push es k v)
-
-pushed : (es : List (Vec ℕ Global × List ℕ)) (k : Vec ℕ Global) (key v asked : List ℕ) → k.items ≡ folded key → string_in (units_of (es ++ (k, v) ∷ [])) asked ≡ option_or (string_in (units_of es) asked) (cond (is_same asked key) (Some v) None)
-unfolding string_in is_same
-pushed es k key v asked p = ap (string_under (folded asked)) (units_of-push es k v) ∙ under-push (folded asked) (units_of es) (k.items, v) ∙ ap (λ (u : List ℕ). option_or (string_under (folded asked) (units_of es)) (cond (bytes_eq (folded asked) u) (Some v) None)) p
-
-pub or_string-new : (es : List (Vec ℕ Global × List ℕ)) (k : Vec ℕ Global) (key v : List ℕ) → k.items ≡ folded key → string_in (units_of (es ++ (k, v) ∷ [])) ≡ or_string (string_in (units_of es)) key v
-or_string-new es k key v p = fun_ext (λ asked. pushed es k key v asked p)
+-- a new key has the string that it is given
+pub or_string-new : (es : List (List ℕ × List ℕ)) (key text : List ℕ) → is_some (lookup (is_same key) es) ≡ false → string_in (insert_entry is_same es key text) ≡ or_string (string_in es) key text
+unfolding string_in
+or_string-new es key text none = fun_ext (λ asked. go es asked none)
+  where
+    go : (fs : List (List ℕ × List ℕ)) (asked : List ℕ) → is_some (lookup (is_same key) fs) ≡ false → lookup (is_same asked) (insert_entry is_same fs key text) ≡ option_or (lookup (is_same asked) fs) (if is_same asked key then Some text else None)
+    go [] asked h = elim (cases_Bool (is_same asked key)) [ inl on ↦ rw on refl | inr off ↦ rw off refl ]
+    go (f ∷ fs) asked h = elim (cases_Bool (is_same key f.0)) [
+      | inl on ↦ let h2 = rw on at h in absurd cc
+      | inr off ↦ let h2 = rw off at h in rw off (elim (cases_Bool (is_same asked f.0)) [ inl on ↦ rw on refl | inr other ↦ rw other (go fs asked h2) ])
+    ]
 
 -- ---- parts between percent signs
 

@@ -5,29 +5,23 @@ use Rattle.std.specs.List.{fold, filter_map}
 use Rattle.std.specs.Option.{option_or}
 use Rattle.std.proofs.lemmas.Bool.{cases_Bool}
 use Rattle.std.proofs.lemmas.List.{reverse-append}
-use Rattle.inf_file.specs.Sections.{Line, Section, is_same}
+use Rattle.inf_text.specs.Names.{is_same, same_laws}
+use Rattle.inf_text.specs.Sections.{Line, Section}
 use Rattle.inf_file.specs.Strings.{Strings}
 use Rattle.inf_file.specs.Rows.{with_param, with_default, saying, set_by, setting, given_default, params_of}
-use Rattle.inf_file.specs.Parameters.{parameters_of}
-use Rattle.inf_file.specs.ByName.{strings_in, rows_of, set_by_rows, defaults_by_rows, value_of}
+use Rattle.inf_file.specs.Parameters.{strings_in, parameters_of}
+use Rattle.inf_file.specs.ByName.{rows_of, set_by_rows, defaults_by_rows, value_of}
 use Rattle.inf_file.specs.declared.param.Param.{Param}
 use Rattle.inf_file.specs.declared.param.ParamValue.{ParamValue}
-use Rattle.inf_file.proofs.SetLaws.{same_both, setting-fold}
-use Rattle.inf_file.proofs.NameLaws.{same_back}
+use Rattle.inf_file.proofs.SetLaws.{setting-fold}
 use Rattle.inf_file.proofs.AnswerLaws.{answered}
 
 -- texts that one text is the same as
 same_two : (name a b : List ℕ) → is_same name a ≡ true → is_same name b ≡ true → is_same a b ≡ true
-same_two name a b h k = same_both a b name (same_back name a h) (same_back name b k)
+same_two name a b h k = sym (same_laws.congr name a b h) ∙ k
 
 same_right : (name a b : List ℕ) → is_same a b ≡ true → is_same name a ≡ is_same name b
-same_right name a b h = elim (cases_Bool (is_same name a)) [
-  | inl on ↦ on ∙ sym (same_both name b a on (same_back a b h))
-  | inr off ↦ elim (cases_Bool (is_same name b)) [
-    | inl on ↦ absurd (true≢false (sym (same_both name a b on h) ∙ off))
-    | inr off2 ↦ off ∙ sym off2
-  ]
-]
+same_right name a b h = same_laws.symm name a ∙ same_laws.congr a b name h ∙ same_laws.symm b name
 
 -- the value that one parameter gives a name
 one_value : List ℕ → Param → Option ParamValue

@@ -1,31 +1,27 @@
 -- The parameters of a hardware id, name by name (Windows Driver Kit, "INF AddReg Directive"): which rows give it parameters,
 -- and which of them gives a name its value.
-use Rattle.std.specs.Prelude.{codes, ℕ, Bool, not, List, [], ◌∷◌, filter, map, Option}
+use Rattle.std.specs.Prelude.{ℕ, Bool, not, List, [], ◌∷◌, filter, map, Option, None, Some}
 use Rattle.std.specs.List.{filter_map, find}
-use Rattle.std.specs.Option.{option_map, option_and_then}
-use Rattle.inf_file.specs.Sections.{Line, Section, is_same, lines_named, lines_at_some}
-use Rattle.inf_file.specs.Strings.{Strings, strings_of}
-use Rattle.inf_file.specs.Models.{models, has_id, model_of, install_place}
-use Rattle.inf_file.specs.Parameters.{directives_of, rows_named}
+use Rattle.std.specs.Option.{option_map}
+use Rattle.inf_text.specs.Names.{is_same}
+use Rattle.inf_text.specs.Sections.{Line, Section, lines_at}
+use Rattle.inf_file.specs.Models.{models, has_id}
+use Rattle.inf_file.specs.Parameters.{strings_in, makers_in, install_of, directives_of, rows_named}
 use Rattle.inf_file.specs.Rows.{saying, set_by, given_default}
 use Rattle.inf_file.specs.declared.param.Param.{Param}
 use Rattle.inf_file.specs.declared.param.ParamValue.{ParamValue}
 
-abbrev pub strings_in : List Section → Strings
-strings_in sections = strings_of (lines_named (codes "Strings") sections)
-
--- the model lines of all manufacturers, those that list a hardware id, the first of them, and the place of its install section
+-- the model lines of all manufacturers, and those of them that list a hardware id
 abbrev pub models_in : List Section → List Line
-models_in sections = models (strings_in sections) sections (lines_named (codes "Manufacturer") sections)
+models_in sections = models (strings_in sections) sections (makers_in sections)
 
 abbrev pub lists_id : List Section → List ℕ → Line → Bool
 lists_id sections id model = has_id (strings_in sections) id model
 
-abbrev pub model_in : List Section → List ℕ → Option Line
-model_in sections id = model_of (strings_in sections) sections (lines_named (codes "Manufacturer") sections) id
-
-abbrev pub install_of : List Section → List ℕ → Option ℕ
-install_of sections id = option_and_then (install_place (strings_in sections) sections) (model_in sections id)
+-- the lines of the section at a place, if there is one
+abbrev pub lines_at_some : List Section → Option ℕ → List Line
+lines_at_some sections None = []
+lines_at_some sections (Some place) = lines_at sections place
 
 -- the AddReg lines of the install section
 abbrev pub directives_in : List Section → List ℕ → List Line

@@ -1,7 +1,7 @@
 -- The first line of an INF file that passes a test, among lines that may stand in any order and more than once.
 use Rattle.std.specs.Prelude.{◌≡◌, ℕ, Bool, true, false, ◌&&◌, nat_lt, List, Option, None, Some, Contains, if◌then◌else◌}
 use Rattle.std.specs.List.{fold, list_any}
-use Rattle.inf_file.specs.Sections.{Line}
+use Rattle.inf_text.specs.Sections.{Line}
 
 -- of two lines the one that stands first in the file
 abbrev pub earlier : Option Line → Line → Option Line

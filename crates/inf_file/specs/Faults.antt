@@ -1,16 +1,16 @@
 -- The line at fault where a file gives a hardware id no parameters: of all such lines the one with the least number.
-use Rattle.std.specs.Prelude.{codes, ℕ, List, [], Option, None, Some}
-use Rattle.inf_file.specs.Sections.{Line, Section, lines_named}
+use Rattle.std.specs.Prelude.{ℕ, List, [], Option, None, Some}
+use Rattle.inf_text.specs.Sections.{Line, Section}
 use Rattle.inf_file.specs.Strings.{line_lacks}
 use Rattle.inf_file.specs.Rows.{is_bad}
 use Rattle.inf_file.specs.Earliest.{HasNone, HasFirst}
-use Rattle.inf_file.specs.Parameters.{lines_read}
-use Rattle.inf_file.specs.ByName.{strings_in, model_in, directives_in, rows_of}
+use Rattle.inf_file.specs.Parameters.{strings_in, makers_in, model_in, lines_read}
+use Rattle.inf_file.specs.ByName.{directives_in, rows_of}
 
 -- the lines that are read where this is the model line
 abbrev pub lines_with : List Section → List Line → List Line → Option Line → List Line
 lines_with sections directives rows None = []
-lines_with sections directives rows (Some model) = lines_read (lines_named (codes "Manufacturer") sections) model directives rows
+lines_with sections directives rows (Some model) = lines_read (makers_in sections) model directives rows
 
 abbrev pub lines_for : List Section → List ℕ → List Line
 lines_for sections id = lines_with sections (directives_in sections id) (rows_of sections id) (model_in sections id)

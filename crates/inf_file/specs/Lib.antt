@@ -1,4 +1,3 @@
-pub mod Sections
 pub mod Keyed
 pub mod Strings
 pub mod Numbers
@@ -6,12 +5,7 @@ pub mod Models
 pub mod Rows
 pub mod Parameters
 pub mod Repeats
-pub mod Characters
-pub mod Quotes
-pub mod Joining
-pub mod Reading
 pub mod ByName
 pub mod Spelling
 pub mod Faults
-pub mod Layout
 pub mod Earliest

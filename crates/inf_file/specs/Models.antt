@@ -3,7 +3,8 @@
 use Rattle.std.specs.Prelude.{codes, ℕ, Bool, ◌&&◌, ◌||◌, List, [], ◌∷◌, ◌++◌, take, drop, Option, None, if◌then◌else◌}
 use Rattle.std.specs.List.{list_any, flat_map, filter_map}
 use Rattle.std.specs.Option.{option_or}
-use Rattle.inf_file.specs.Sections.{Line, Section, is_same, place_named, lines_at, has_key, value_at}
+use Rattle.inf_text.specs.Names.{is_same}
+use Rattle.inf_text.specs.Sections.{Line, Section, place_named, lines_at, has_key, value_at}
 use Rattle.inf_file.specs.Strings.{Strings, replaced}
 use Rattle.inf_file.specs.Earliest.{earliest}
 

@@ -1,5 +1,5 @@
 -- Numbers below 2^32 in decimal or behind `0x` in hexadecimal, with leading zeros or without.
-use Rattle.std.specs.Prelude.{codes, ℕ, ◌+◌, ◌*◌, ◌-◌, ◌^◌, ◌&&◌, nat_lt, nat_le, List, [], ◌∷◌, take, drop, Option, Some, None, if◌then◌else◌}
+use Rattle.std.specs.Prelude.{codes, ℕ, ◌+◌, ◌*◌, ◌-◌, ◌^◌, ◌&&◌, ◌==◌, nat_lt, nat_le, List, [], ◌∷◌, length, take, drop, Option, Some, None, if◌then◌else◌}
 use Rattle.std.specs.Str.{bytes_eq}
 
 -- the value of a digit in either case, or 16
@@ -17,8 +17,7 @@ below_4g (Some n) = if nat_lt n (2 ^ 32) then Some n else None
 
 -- one digit or more
 unfoldable pub digits : ℕ → List ℕ → Option ℕ
-digits base [] = None
-digits base (c ∷ cs) = below_4g (digits_after base 0 (c ∷ cs))
+digits base text = if length text == 0 then None else below_4g (digits_after base 0 text)
 
 unfoldable pub number_of : List ℕ → Option ℕ
 number_of text = if bytes_eq (take 2 text) (codes "0x") then digits 16 (drop 2 text) else digits 10 text

@@ -1,7 +1,8 @@
 -- The parameters that an INF file gives a hardware id, or why it gives none.
 use Rattle.std.specs.Prelude.{codes, ℕ, Bool, List, ◌∷◌, ◌++◌, filter, Option, None, Some, Result, Ok, Err, if◌then◌else◌}
 use Rattle.std.specs.List.{filter_map, flat_map}
-use Rattle.inf_file.specs.Sections.{Line, Section, place_named, lines_at, lines_named, has_key}
+use Rattle.std.specs.Option.{option_and_then}
+use Rattle.inf_text.specs.Sections.{Line, Section, place_named, lines_at, lines_named, has_key}
 use Rattle.inf_file.specs.Strings.{Strings, strings_of, replaced, line_lacks}
 use Rattle.inf_file.specs.Earliest.{earliest}
 use Rattle.inf_file.specs.Models.{is_signed, model_of, install_place}
@@ -9,6 +10,20 @@ use Rattle.inf_file.specs.Rows.{is_bad, params_of}
 use Rattle.inf_file.specs.declared.param.Param.{Param}
 use Rattle.inf_file.specs.declared.param.ParamRefusal.{ParamRefusal}
 use Rattle.inf_file.specs.declared.param.ParamRefusal.TheVariants.{NoVersion, NoModel, NoInstall, NoString, BadValue}
+
+abbrev pub strings_in : List Section → Strings
+strings_in sections = strings_of (lines_named (codes "Strings") sections)
+
+-- the lines of the manufacturers
+abbrev pub makers_in : List Section → List Line
+makers_in sections = lines_named (codes "Manufacturer") sections
+
+-- the model line of a hardware id, and the place of the install section that it names
+abbrev pub model_in : List Section → List ℕ → Option Line
+model_in sections id = model_of (strings_in sections) sections (makers_in sections) id
+
+abbrev pub install_of : List Section → List ℕ → Option ℕ
+install_of sections id = option_and_then (install_place (strings_in sections) sections) (model_in sections id)
 
 abbrev pub is_directive : Line → Bool
 is_directive line = has_key (codes "AddReg") line
@@ -55,19 +70,11 @@ of_directives strings sections makers model directives =
     let rows = rows_named strings sections directives in
     of_rows strings (lines_read makers model directives rows) rows
 
-abbrev pub of_lines : Strings → List Section → List Line → Line → List Line → Result (List Param) ParamRefusal
-of_lines strings sections makers model lines = of_directives strings sections makers model (directives_of lines)
-
-abbrev pub of_install : Strings → List Section → List Line → Line → Option ℕ → Result (List Param) ParamRefusal
-of_install strings sections makers model None = Err NoInstall
-of_install strings sections makers model (Some install) = of_lines strings sections makers model (lines_at sections install)
-
-abbrev pub of_model : Strings → List Section → List Line → Option Line → Result (List Param) ParamRefusal
-of_model strings sections makers None = Err NoModel
-of_model strings sections makers (Some model) = of_install strings sections makers model (install_place strings sections model)
-
-abbrev pub of_strings : Strings → List Section → List ℕ → Result (List Param) ParamRefusal
-of_strings strings sections id = let makers = lines_named (codes "Manufacturer") sections in of_model strings sections makers (model_of strings sections makers id)
+-- what is answered where this is the model line of a hardware id, and this the place of its install section
+abbrev pub answer : List Section → Option Line → Option ℕ → Result (List Param) ParamRefusal
+answer sections None install = Err NoModel
+answer sections (Some model) None = Err NoInstall
+answer sections (Some model) (Some install) = of_directives (strings_in sections) sections (makers_in sections) model (directives_of (lines_at sections install))
 
 unfoldable pub parameters_of : List Section → List ℕ → Result (List Param) ParamRefusal
-parameters_of sections id = if is_signed (lines_named (codes "Version") sections) then of_strings (strings_of (lines_named (codes "Strings") sections)) sections id else Err NoVersion
+parameters_of sections id = if is_signed (lines_named (codes "Version") sections) then answer sections (model_in sections id) (install_of sections id) else Err NoVersion

@@ -1,9 +1,10 @@
 -- The rows of add-registry sections that give a network adapter its parameters (Windows Driver Kit, "INF AddReg Directive",
 -- "Specifying Configuration Parameters for the Advanced Properties Page"): root, subkey, name, flags and value.
-use Rattle.std.specs.Prelude.{codes, ℕ, Bool, true, false, ◌&&◌, ◌==◌, List, [], ◌∷◌, ◌++◌, length, take, drop, Option, None, Some, if◌then◌else◌}
-use Rattle.std.specs.List.{fold, filter_map, position}
-use Rattle.inf_file.specs.Sections.{Line, is_same, value_at}
-use Rattle.inf_file.specs.Strings.{Strings, replaced}
+use Rattle.std.specs.Prelude.{codes, ℕ, Bool, true, false, ◌&&◌, ◌==◌, List, [], ◌∷◌, ◌++◌, take, drop, Option, None, Some, if◌then◌else◌}
+use Rattle.std.specs.List.{fold, filter_map}
+use Rattle.inf_text.specs.Names.{is_same}
+use Rattle.inf_text.specs.Sections.{Line, value_at}
+use Rattle.inf_file.specs.Strings.{Strings, is_empty, replaced}
 use Rattle.inf_file.specs.Numbers.{number_of}
 use Rattle.inf_file.specs.declared.param.Param.{Param}
 use Rattle.inf_file.specs.declared.param.ParamValue.TheVariants.{Text, Number}
@@ -22,9 +23,6 @@ dword_row name (Some n) = Sets (record { name = name; value = Number n })
 abbrev pub typed_row : List ℕ → Option ℕ → List ℕ → Saying
 typed_row name None value = Nothing
 typed_row name (Some flags) value = if flags == 0 then Sets (text_param name value) else if flags == 0x10001 then dword_row name (number_of value) else Nothing
-
-abbrev pub is_empty : List ℕ → Bool
-is_empty text = length text == 0
 
 -- a row of the driver's key itself sets a parameter; no flags are those of a string
 unfoldable pub driver_key_row : List ℕ → List ℕ → List ℕ → Saying
@@ -59,10 +57,6 @@ bad_saying Bad = true
 -- a row whose number is none
 unfoldable pub is_bad : Strings → Line → Bool
 is_bad strings line = bad_saying (saying strings line)
-
--- the place of the parameter of a name, from 0
-abbrev pub param_place : List ℕ → List Param → Option ℕ
-param_place name params = position (λ q. is_same name q.name) params
 
 -- a parameter that is there keeps its place and spelling and takes the value; a new one goes last
 unfoldable pub with_param : List Param → Param → List Param

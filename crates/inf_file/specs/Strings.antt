@@ -1,9 +1,9 @@
 -- The strings of an INF file, and their replacement (Windows Driver Kit, "INF Strings Section"): `%key%` stands for the string of
 -- that key, and `%%` is one percent sign.
-use Rattle.std.specs.Prelude.{◌≡◌, ℕ, Bool, false, not, ◌&&◌, ◌||◌, ◌==◌, nat_le, List, [], ◌∷◌, ◌++◌, Option, None, Some, is_some, if◌then◌else◌}
+use Rattle.std.specs.Prelude.{◌≡◌, ℕ, Bool, false, not, ◌&&◌, ◌||◌, ◌==◌, nat_le, List, [], ◌∷◌, ◌++◌, length, Option, None, Some, is_some, if◌then◌else◌}
 use Rattle.std.specs.List.{All, fold, list_all, list_any, slice_split}
 use Rattle.std.specs.Option.{option_or}
-use Rattle.inf_file.specs.Sections.{Line, has_key, value_at}
+use Rattle.inf_text.specs.Sections.{Line, has_key, value_at}
 
 -- the string of a key
 abbrev pub Strings : Type 0
@@ -30,10 +30,12 @@ abbrev pub or_self : List ℕ → Option (List ℕ) → List ℕ
 or_self key None = 37 ∷ (key ++ 37 ∷ [])
 or_self key (Some text) = text
 
--- what stands for a key between percent signs: a key of no string stands for itself
+abbrev pub is_empty : List ℕ → Bool
+is_empty text = length text == 0
+
+-- what stands for a key between percent signs: a key of no string stands for itself, and an empty one for one percent sign
 unfoldable pub meaning : Strings → List ℕ → List ℕ
-meaning strings [] = 37 ∷ []
-meaning strings (c ∷ cs) = or_self (c ∷ cs) (strings (c ∷ cs))
+meaning strings key = if is_empty key then 37 ∷ [] else or_self key (strings key)
 
 -- the parts behind a percent sign are a key, if another sign is behind it, and text by turns
 abbrev pub behind_percent : (List ℕ → List ℕ) → List (List ℕ) → List ℕ
@@ -54,8 +56,7 @@ is_digit unit = nat_le 48 unit && nat_le unit 57
 
 -- a key that has no string and is no number of a directory
 unfoldable pub is_missing : Strings → List ℕ → Bool
-is_missing strings [] = false
-is_missing strings (c ∷ cs) = not (is_some (strings (c ∷ cs))) && not (list_all is_digit (c ∷ cs))
+is_missing strings key = if is_empty key then false else if list_all is_digit key then false else not (is_some (strings key))
 
 -- whether a key between percent signs passes
 abbrev pub asks_behind : (List ℕ → Bool) → List (List ℕ) → Bool

@@ -1,21 +1,20 @@
 //! The parameters that rows give, and their defaults.
 
-ghost use Rattle.std.specs.Prelude.{◌≡◌, ◌++◌, ◌∷◌, [], None, map, IfOk, OnOk};
+ghost use Rattle.std.specs.Prelude.{◌≡◌, ◌++◌, [], map, IfOk, OnOk};
 ghost use Rattle.std.specs.List.{fold, cons_option, filter_map};
 ghost use Rattle.std.specs.Option.{option_copied};
 ghost use Rattle.inf_file.specs.Keyed.{string_in};
 ghost use Rattle.inf_file.specs.Earliest.{earlier_if, earliest};
-ghost use Rattle.inf_file.specs.Rows.{param_place, with_param, with_default, set_by, default_by, set_some, setting, given_default, bad_saying, is_bad, params_of};
+ghost use Rattle.inf_file.specs.Rows.{with_param, with_default, set_by, default_by, set_some, setting, given_default, bad_saying, is_bad, params_of};
 ghost use Rattle.inf_file.specs.Parameters.{unless_bad};
 ghost use Rattle.nd_base.specs.Results.{Gives};
 
-use crate::fold::folded;
 use crate::lines::earlier;
-use crate::param::{Param, ParamRefusal};
+use crate::param::{Param, ParamRefusal, ParamValue};
 use crate::row::{Saying, read_row};
-use crate::sections::Line;
 use crate::strings::Strings;
 use indexmap::IndexMap;
+use inf_text::{Line, Name};
 use nd_base::OutOfMemory;
 use std::alloc::Global;
 use std::marker::Model;
@@ -23,7 +22,7 @@ use std::marker::Model;
 /// Parameters, each name once, in the order of their first places.
 #[derive(Drop)]
 pub struct Params {
-    table: IndexMap<Vec<u16>, Param>,
+    table: IndexMap<Name, ParamValue>,
 }
 
 impl Model for Params {
@@ -32,17 +31,14 @@ impl Model for Params {
 
     ghost Value = { List Parameter };
 
-    ghost use Rattle.indexmap.specs.IndexMap.{values};
-    ghost use Rattle.inf_file.specs.Keyed.{AreFolded};
+    ghost use Rattle.inf_file.specs.Keyed.{params_in};
 
-    ghost view = { λ p. values p.table };
-
-    ghost invariant = { λ p. AreFolded (λ q. q.name) p.table.entries };
+    ghost view = { λ p. params_in p.table.entries };
 }
 
 impl Params {
     /// No parameters.
-    pub fn empty(alloc: Global) -> Params
+    fn empty(alloc: Global) -> Params
         ensures { result ≡ [] }
     {
         Params {
@@ -50,54 +46,38 @@ impl Params {
         }
     }
 
-    /// The place of the parameter of a name.
-    fn place(&self, alloc: Global, name: &[u16]) -> Result<Option<usize>, OutOfMemory>
-        ensures { IfOk result (λ place. place ≡ param_place name.now self.now) }
+    /// Sets a parameter: one that is there keeps its place and spelling and takes the value.
+    fn set(&mut self, param: Param) -> Result<(), OutOfMemory>
+        ensures { OnOk result (self.new ≡ with_param self.old param) }
     {
-        let key = folded(alloc, name)?;
-        Ok(self.table.get_index_of(&key))
-    }
-
-    /// Puts a parameter of a new name behind the last one.
-    fn push(&mut self, alloc: Global, param: Param) -> Result<(), OutOfMemory>
-        requires { param_place param.name self.old ≡ None }
-        ensures { OnOk result (self.new ≡ self.old ++ param ∷ []) }
-    {
-        let key = folded(alloc, param.name.as_slice())?;
-        self.table.insert(key, param)?;
+        let Param { name, value } = param;
+        self.table.insert(Name::new(name), value)?;
         Ok(())
     }
 
-    /// Sets a parameter: one that is there keeps its place and spelling and takes the value.
-    pub fn set(&mut self, alloc: Global, param: Param) -> Result<(), OutOfMemory>
-        ensures { OnOk result (self.new ≡ with_param self.old param) }
-    {
-        match self.place(alloc, param.name.as_slice())? {
-            Some(place) => {
-                let held = &mut self.table[place];
-                held.value = param.value;
-                Ok(())
-            }
-            None => self.push(alloc, param),
-        }
-    }
-
     /// Gives a parameter a value where it has none.
-    pub fn set_default(&mut self, alloc: Global, param: Param) -> Result<(), OutOfMemory>
+    fn set_default(&mut self, param: Param) -> Result<(), OutOfMemory>
         ensures { OnOk result (self.new ≡ with_default self.old param) }
     {
-        match self.place(alloc, param.name.as_slice())? {
-            Some(_) => Ok(()),
-            None => self.push(alloc, param),
+        let Param { name, value } = param;
+        let name = Name::new(name);
+        if self.table.contains_key(&name) {
+            return Ok(());
         }
+        self.table.insert(name, value)?;
+        Ok(())
     }
 
     /// The parameters in their order.
-    pub fn into_list(self, alloc: Global) -> Result<Vec<Param>, OutOfMemory>
+    fn into_list(self, alloc: Global) -> Result<Vec<Param>, OutOfMemory>
         ensures { IfOk result (λ v. v.items ≡ self) }
     {
         let Params { table } = self;
-        let list = table.into_values().collect(alloc)?;
+        let mut list = Vec::new(alloc);
+        for (name, value) in table {
+            let name = name.into_text();
+            list.push(Param { name, value })?;
+        }
         Ok(list)
     }
 }
@@ -121,12 +101,12 @@ fn is_bad(said: &Saying) -> bool
 
 impl Gathered {
     /// What a row says is put to what those before it said.
-    fn add(&mut self, alloc: Global, said: Saying) -> Result<(), OutOfMemory>
+    fn add(&mut self, said: Saying) -> Result<(), OutOfMemory>
         ensures set { OnOk result (self.new.set ≡ set_some self.old.set (set_by said)) }
         ensures defaults { OnOk result (self.new.defaults.items ≡ self.old.defaults.items ++ cons_option (default_by said) []) }
     {
         match said {
-            Saying::Sets(param) => self.set.set(alloc, param),
+            Saying::Sets(param) => self.set.set(param),
             Saying::Defaults(param) => {
                 self.defaults.push(param)?;
                 Ok(())
@@ -150,7 +130,7 @@ impl Gathered {
     {
         let said = read_row(alloc, strings, row)?;
         let is_bad = is_bad(&said);
-        self.add(alloc, said)?;
+        self.add(said)?;
         if is_bad {
             Ok(earlier(bad, row))
         } else {
@@ -184,7 +164,7 @@ impl Gathered {
         let Gathered { set, defaults } = self;
         let mut params = set;
         for param in defaults {
-            params.set_default(alloc, param)?;
+            params.set_default(param)?;
         }
         params.into_list(alloc)
     }

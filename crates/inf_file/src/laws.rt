@@ -3,11 +3,12 @@
 ghost use Rattle.std.specs.Prelude.{ℕ, List, Option, Some, Ok, Err, ◌≡◌, ◌++◌, ◌∷◌, ◌↔◌, AllPairs, false, map, reverse};
 ghost use Rattle.std.specs.Option.{option_map, option_or};
 ghost use Rattle.std.specs.List.{find};
-ghost use Rattle.inf_file.specs.Sections.{Line as InfLine, Section as InfSection, is_same, has_key, value_at};
+ghost use Rattle.inf_text.specs.Names.{is_same};
+ghost use Rattle.inf_text.specs.Sections.{Line as InfLine, Section as InfSection, has_key, value_at};
 ghost use Rattle.inf_file.specs.Strings.{Strings, HasNoPercent, meaning, replaced, strings_of};
 ghost use Rattle.inf_file.specs.Numbers.{number_of};
-ghost use Rattle.inf_file.specs.Parameters.{parameters_of};
-ghost use Rattle.inf_file.specs.ByName.{models_in, lists_id, model_in, set_by_rows, defaults_by_rows, names, each_once, value_of};
+ghost use Rattle.inf_file.specs.Parameters.{model_in, parameters_of};
+ghost use Rattle.inf_file.specs.ByName.{models_in, lists_id, set_by_rows, defaults_by_rows, names, each_once, value_of};
 ghost use Rattle.inf_file.specs.Earliest.{IsFirst};
 ghost use Rattle.inf_file.specs.Faults.{LacksNone, FirstLacking, BadNone, FirstBad};
 ghost use Rattle.inf_file.specs.Spelling.{SpellsNumber};

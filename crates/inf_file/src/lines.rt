@@ -5,7 +5,7 @@ ghost use Rattle.std.specs.Option.{option_copied};
 ghost use Rattle.inf_file.specs.Earliest.{earlier};
 ghost use Rattle.inf_file.specs.Parameters.{lines_of_all, lines_read, directives_of, is_directive};
 
-use crate::sections::{Inf, Line};
+use inf_text::{Inf, Line};
 use nd_base::OutOfMemory;
 use std::alloc::Global;
 

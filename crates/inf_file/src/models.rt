@@ -4,18 +4,18 @@ ghost use Rattle.std.specs.Prelude.{codes, ◌≡◌, [], map, drop, take, lengt
 ghost use Rattle.std.specs.List.{filter_map};
 ghost use Rattle.std.specs.Option.{option_copied};
 ghost use Rattle.inf_file.specs.Keyed.{string_in};
-ghost use Rattle.inf_file.specs.Sections.{is_same, has_key, value_at, place_named};
+ghost use Rattle.inf_text.specs.Names.{is_same};
+ghost use Rattle.inf_text.specs.Sections.{has_key, value_at, place_named};
 ghost use Rattle.inf_file.specs.Strings.{replaced};
 ghost use Rattle.inf_file.specs.Earliest.{earlier_if, earliest};
 ghost use Rattle.inf_file.specs.Repeats.{thinned};
 ghost use Rattle.inf_file.specs.Parameters.{lines_of_all};
 ghost use Rattle.inf_file.specs.Models.{is_good_signature, is_signed_by, is_signed, dotted, usual_names, first_place, is_nt_x86, decoration_place, decorated_place, models_place, has_id, model_of, install_place};
 
-use crate::fold::{is_same, is_word};
 use crate::lines::{earlier, lines_of_all};
 use crate::repeats::{push_place, thinned};
-use crate::sections::{Inf, Line};
 use crate::strings::Strings;
+use inf_text::{Inf, Line, Name, is_same, is_word};
 use nd_base::{OutOfMemory, Wide};
 use std::alloc::Global;
 
@@ -64,21 +64,21 @@ fn decorated_section(
     ensures { IfOk result (λ place. place ≡ place_named (dotted name.now decoration.now) inf.now) }
 {
     let text = dotted(alloc, name, decoration)?;
-    inf.place(alloc, text.as_slice())
+    Ok(inf.place(&Name::new(text)))
 }
 
 /// The place of the closest section for i386 that exists of a name.
 #[tactic(auto, unfolding(crate::specs::Models::first_place, crate::specs::Models::usual_names))]
-fn usual_place(inf: &Inf, alloc: Global, name: &[u16]) -> Result<Option<usize>, OutOfMemory>
-    ensures { IfOk result (λ place. place ≡ first_place (usual_names name.now) inf.now) }
+fn usual_place(inf: &Inf, alloc: Global, name: Wide) -> Result<Option<usize>, OutOfMemory>
+    ensures { IfOk result (λ place. place ≡ first_place (usual_names name) inf.now) }
 {
-    if let Some(place) = decorated_section(inf, alloc, name, &NT_X86)? {
+    if let Some(place) = decorated_section(inf, alloc, name.as_slice(), &NT_X86)? {
         return Ok(Some(place));
     }
-    if let Some(place) = decorated_section(inf, alloc, name, &NT)? {
+    if let Some(place) = decorated_section(inf, alloc, name.as_slice(), &NT)? {
         return Ok(Some(place));
     }
-    inf.place(alloc, name)
+    Ok(inf.place(&Name::new(name)))
 }
 
 /// `NTx86`.
@@ -158,7 +158,7 @@ fn models_place(
     let decorations = behind_first(maker.values());
     match decorated_place(inf, alloc, strings, name.as_slice(), decorations)? {
         Some(place) => Ok(Some(place)),
-        None => usual_place(inf, alloc, name.as_slice()),
+        None => usual_place(inf, alloc, name),
     }
 }
 
@@ -278,5 +278,5 @@ pub fn install_place(
     ensures { IfOk result (λ place. place ≡ install_place (string_in strings.now) inf.now model.now) }
 {
     let name = strings.value(alloc, model, 0)?;
-    usual_place(inf, alloc, name.as_slice())
+    usual_place(inf, alloc, name)
 }

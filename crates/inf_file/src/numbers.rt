@@ -20,6 +20,7 @@ fn digit_value(unit: u16) -> u64
 }
 
 /// The number below 2^32 that digits of a base stand for.
+#[tactic(auto, unfolding(crate::specs::Numbers::digits))]
 fn digits(base: u64, text: &[u16]) -> Option<u32>
     requires least { 1 ≤ base }
     requires most { base ≤ 16 }

@@ -3,7 +3,7 @@
 ghost use Rattle.std.specs.Prelude.{◌≡◌, ◌++◌, [], map, IfOk, OnOk};
 ghost use Rattle.std.specs.Option.{option_copied};
 ghost use Rattle.inf_file.specs.Keyed.{string_in};
-ghost use Rattle.inf_file.specs.Sections.{place_named};
+ghost use Rattle.inf_text.specs.Sections.{place_named};
 ghost use Rattle.inf_file.specs.Strings.{replaced, line_lacks};
 ghost use Rattle.inf_file.specs.Earliest.{earlier_if, earliest};
 ghost use Rattle.inf_file.specs.Repeats.{thinned};
@@ -11,8 +11,8 @@ ghost use Rattle.inf_file.specs.Parameters.{named_places, reg_places, lines_of_a
 
 use crate::lines::{earlier, lines_of_all};
 use crate::repeats::{push_place, thinned};
-use crate::sections::{Inf, Line};
 use crate::strings::Strings;
+use inf_text::{Inf, Line, Name};
 use nd_base::{OutOfMemory, Wide};
 use std::alloc::Global;
 
@@ -26,7 +26,7 @@ fn named_place(
     ensures { IfOk result (λ place. place ≡ place_named (replaced (string_in strings.now) value.now) inf.now) }
 {
     let name = strings.replaced(alloc, value.as_slice())?;
-    inf.place(alloc, name.as_slice())
+    Ok(inf.place(&Name::new(name)))
 }
 
 /// Puts the places of the sections that values name behind the last one.

@@ -2,15 +2,14 @@
 
 ghost use Rattle.std.specs.Prelude.{◌≡◌, take, drop, IfOk};
 ghost use Rattle.inf_file.specs.Keyed.{string_in};
-ghost use Rattle.inf_file.specs.Sections.{is_same};
+ghost use Rattle.inf_text.specs.Names.{is_same};
 ghost use Rattle.inf_file.specs.Numbers.{number_of};
 ghost use Rattle.inf_file.specs.Rows.{is_zero, params_key, driver_key_row, default_row, row, saying};
 
-use crate::fold::is_word;
 use crate::numbers::number_of;
 use crate::param::{Param, ParamValue};
-use crate::sections::Line;
 use crate::strings::Strings;
+use inf_text::{Line, is_word};
 use nd_base::{OutOfMemory, Wide};
 use std::alloc::Global;
 

@@ -1,34 +1,32 @@
 //! The strings of an INF file, and their replacement.
 
-ghost use Rattle.std.specs.Prelude.{◌≡◌, ◌<◌, ◌≤◌, ◌++◌, ◌∷◌, [], None, length, MatchOption, IfOk, IfSome, OnOk};
+ghost use Rattle.std.specs.Prelude.{◌≡◌, ◌<◌, ◌≤◌, ◌++◌, ◌∷◌, [], length, MatchOption, IfOk, IfSome, OnOk};
 ghost use Rattle.std.specs.List.{position, slice_split, list_any, list_all};
 ghost use Rattle.std.specs.Option.{option_copied};
 ghost use Rattle.inf_file.specs.Keyed.{string_in, or_string};
 ghost use Rattle.inf_file.specs.Strings.{with_string, strings_of, is_percent, is_digit, meaning, replaced, is_missing, lacks_string, key_lacks, line_lacks};
-ghost use Rattle.inf_file.specs.Sections.{value_at};
+ghost use Rattle.inf_text.specs.Sections.{value_at};
 
-use crate::fold::folded;
-use crate::sections::Line;
 use indexmap::IndexMap;
+use inf_text::{Line, Name};
 use nd_base::{OutOfMemory, Wide};
 use std::alloc::Global;
 use std::marker::Model;
 
 const PERCENT: u16 = 37;
 
-/// The strings under their folded keys.
+/// The strings under their keys.
 #[derive(Drop)]
 pub struct Strings {
-    table: IndexMap<Vec<u16>, Wide>,
+    table: IndexMap<Name, Wide>,
 }
 
 impl Model for Strings {
     ghost use Rattle.std.specs.Prelude.{ℕ, List};
-    ghost use Rattle.inf_file.specs.Keyed.{units_of};
 
     ghost Value = { List (List ℕ × List ℕ) };
 
-    ghost view = { λ s. units_of s.table.entries };
+    ghost view = { λ s. s.table.entries };
 }
 
 fn is_digit(unit: u16) -> bool
@@ -113,32 +111,26 @@ impl Strings {
     fn add_string(&mut self, alloc: Global, key: &[u16], text: &[u16]) -> Result<(), OutOfMemory>
         ensures { OnOk result (string_in self.new ≡ or_string (string_in self.old) key.now text.now) }
     {
-        match self.get(alloc, key)? {
-            Some(_) => Ok(()),
-            None => self.push(alloc, key, text),
+        let name = Name::new(Wide::copy(alloc, key)?);
+        if self.table.contains_key(&name) {
+            return Ok(());
         }
-    }
-
-    /// Puts the string of a new key behind the last one.
-    fn push(&mut self, alloc: Global, key: &[u16], text: &[u16]) -> Result<(), OutOfMemory>
-        requires { string_in self.old key.now ≡ None }
-        ensures { OnOk result (string_in self.new ≡ or_string (string_in self.old) key.now text.now) }
-    {
         let text = Wide::copy(alloc, text)?;
-        let key = folded(alloc, key)?;
-        self.table.insert(key, text)?;
+        self.table.insert(name, text)?;
         Ok(())
     }
 
     /// The string of a key.
+    #[tactic(auto, unfolding(crate::specs::Keyed::string_in))]
     fn get(&self, alloc: Global, key: &[u16]) -> Result<Option<&Wide>, OutOfMemory>
         ensures { IfOk result (λ o. option_copied o ≡ string_in self.now key.now) }
     {
-        let key = folded(alloc, key)?;
-        Ok(self.table.get(&key))
+        let name = Name::new(Wide::copy(alloc, key)?);
+        Ok(self.table.get(&name))
     }
 
     /// Puts what stands for a key behind a text.
+    #[tactic(auto, unfolding(crate::specs::Strings::meaning))]
     fn put_meaning(&self, alloc: Global, out: &mut Wide, key: &[u16]) -> Result<(), OutOfMemory>
         ensures { OnOk result (out.new ≡ out.old ++ meaning (string_in self.now) key.now) }
     {
@@ -174,19 +166,14 @@ impl Strings {
     }
 
     /// Whether a key has no string and is no number.
+    #[tactic(auto, unfolding(crate::specs::Strings::is_missing))]
     fn is_missing(&self, alloc: Global, key: &[u16]) -> Result<bool, OutOfMemory>
         ensures { IfOk result (λ b. b ≡ is_missing (string_in self.now) key.now) }
     {
-        if key.is_empty() {
+        if key.is_empty() || is_number(key) {
             return Ok(false);
         }
-        if is_number(key) {
-            return Ok(false);
-        }
-        match self.get(alloc, key)? {
-            Some(_) => Ok(false),
-            None => Ok(true),
-        }
+        Ok(self.get(alloc, key)?.is_none())
     }
 
     /// Whether a text lacks a string.

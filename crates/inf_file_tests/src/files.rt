@@ -1,6 +1,7 @@
 //! Files of the tests, and what they give.
 
-use inf_file::{Inf, InfRefusal, Param, ParamRefusal, ParamValue};
+use inf_file::{Param, ParamRefusal, ParamValue, parameters};
+use inf_text::{Inf, InfRefusal};
 use std::alloc::Global;
 
 /// The hardware id `*PNP80D6`.
@@ -67,7 +68,7 @@ fn are_shown(params: &[Param], want: &str) -> bool {
 
 /// Whether a file gives a hardware id these parameters.
 fn has(alloc: Global, inf: &Inf, id: &[u16], want: &str) -> bool {
-    match inf.parameters(alloc, id) {
+    match parameters(inf, alloc, id) {
         Ok(params) => are_shown(params.as_slice(), want),
         Err(_) => false,
     }
@@ -91,7 +92,7 @@ pub fn rows_give(alloc: Global, rows: &str, want: &str) -> bool {
 
 /// Why a hardware id has no parameters.
 fn refusal_of(alloc: Global, inf: &Inf, id: &[u16]) -> Option<ParamRefusal> {
-    match inf.parameters(alloc, id) {
+    match parameters(inf, alloc, id) {
         Ok(_) => None,
         Err(refusal) => Some(refusal),
     }
@@ -132,7 +133,7 @@ fn first_number(params: &[Param]) -> Option<u32> {
 /// The number that a file's first parameter has.
 pub fn number_of(alloc: Global, bytes: &[u8]) -> Option<u32> {
     match Inf::read(alloc, bytes) {
-        Ok(inf) => match inf.parameters(alloc, &PNP80D6) {
+        Ok(inf) => match parameters(&inf, alloc, &PNP80D6) {
             Ok(params) => first_number(params.as_slice()),
             Err(_) => None,
         },
@@ -143,7 +144,7 @@ pub fn number_of(alloc: Global, bytes: &[u8]) -> Option<u32> {
 /// How many parameters a file gives a hardware id.
 pub fn count_of(alloc: Global, bytes: &[u8], id: &[u16]) -> Option<usize> {
     match Inf::read(alloc, bytes) {
-        Ok(inf) => match inf.parameters(alloc, id) {
+        Ok(inf) => match parameters(&inf, alloc, id) {
             Ok(params) => Some(params.len()),
             Err(_) => None,
         },

@@ -1,5 +1,5 @@
 use crate::files::{PNP80D6, count_of, fault_of, gives, rows_give, with_rows};
-use inf_file::InfRefusal;
+use inf_text::InfRefusal;
 use std::alloc::Global;
 
 /// The longest file that is read, in bytes.

@@ -26,6 +26,10 @@ pub get_insert_other : (s : Space) (k : ℕ) (v : Cell) (x : ℕ) → x ≢ k �
 get_insert_other s k v x e = grind (arith, nat_tests, get_insert s k v x)
 
 -- ---- new zero bytes
+pub zeros_of_none : (s : Space) (a n : ℕ) (rights : Rights) → n ≡ 0 → zeros_from s a n rights ≡ s
+unfolding zeros_from
+zeros_of_none s a n rights none = ap (λ (m : ℕ). zeros_from s a m rights) none
+
 pub get_zeros_out : (s : Space) (a n : ℕ) (rights : Rights) (x : ℕ) → (a ≤ x → a + n ≤ x) → map.get (zeros_from s a n rights) x ≡ map.get s x
 unfolding zeros_from
 get_zeros_out s a zero rights x out = refl

@@ -1,7 +1,8 @@
 -- The map of a list of regions: its look-up, and what a write and a new region make of it.
-use Rattle.std.proofs.Common.{◌≡◌, ℕ, zero, suc, ◌+◌, ◌-◌, ◌^◌, ◌<◌, ◌≤◌, List, [], ◌∷◌, ◌++◌, length, get_or, replicate, Option, None, Some, Result, Ok, Err, OnOk, refl, sym, ap, ◌∙◌, subst, inl, inr, arith}
+use Rattle.std.proofs.Common.{◌≡◌, ℕ, zero, suc, ◌+◌, ◌-◌, ◌^◌, ◌<◌, ◌≤◌, List, [], length, get_or, insert, replicate, Option, None, Some, Result, Ok, Err, OnOk, refl, sym, ap, ◌∙◌, subst, inl, inr, arith}
 use Rattle.std.specs.FinMap as map
 use Rattle.std.specs.Ordering.{nat_cmp}
+use Rattle.std.specs.List.Sorted.{IsPartitionPoint}
 use Rattle.std.proofs.lemmas.Bool.{cases_eq, cases_lt}
 use Rattle.std.proofs.lemmas.List.{length-replicate, length-map}
 use Rattle.nd_mem.specs.declared.Rights.{Rights}
@@ -12,7 +13,8 @@ use Rattle.nd_mem.specs.Space.{Space, Cells, IsLow, Access, Executing, fault_at,
 use Rattle.nd_mem.specs.Mapped.{insert_found, tabulated, mapped}
 use Rattle.nd_mem.specs.Regions.{cells_of, AreLaidOut, shape, shapes, IsRun, PutsBytes}
 use Rattle.nd_mem.proofs.Laws.{same_space, get_insert_same, get_insert_other, get_zeros_in, get_zeros_out, get_put_at, get_put_apart, fault_low, none_of_ok}
-use Rattle.nd_mem.proofs.RegionList.{cells_of-low, holds-true, holds-outside, AreLaidOut-push, zeros_push, others_push}
+use Rattle.nd_mem.proofs.RegionList.{cells_of-low, holds-outside}
+use Rattle.nd_mem.proofs.Order.{AreLaidOut-insert, zeros_insert, others_insert}
 
 get_found_other : (space : Space) (n x : ℕ) (found : Option Cell) → (x ≡ n → ⊥) → map.get (insert_found space n found) x ≡ map.get space x
 get_found_other space n x None apart = refl
@@ -81,23 +83,24 @@ mapped_put access before after a bytes was now low none puts =
     same_space _ _ (λ x. get_mapped_at after now x ∙ at_run a (length bytes) (λ y. cells_of after y ≡ map.get (put_from (mapped (cells_of before)) a bytes) y) x inside outside)
 
 -- a new region of zero bytes where nothing is mapped
-module _ (regions : List Region) (region : Region) (at len : ℕ) (rights : Rights) (laid_out : AreLaidOut regions) (first : region.first.0 ≡ at) (zeros : region.bytes.items ≡ replicate len 0) (same : region.rights ≡ rights) (low : at + len ≤ 0xF0000000) (free : (x : ℕ) → at ≤ x → x < at + len → cells_of regions x ≡ None) where
-  pub pushed_laid_out : AreLaidOut (regions ++ region ∷ [])
-  pushed_laid_out =
+module _ (regions : List Region) (region : Region) (at len : ℕ) (rights : Rights) (laid_out : AreLaidOut regions) (first : region.first.0 ≡ at) (zeros : region.bytes.items ≡ replicate len 0) (same : region.rights ≡ rights) (some : 0 < len) (index : ℕ) (most : index ≤ length regions) (begun : IsPartitionPoint (λ (region : Region). region.first.0 ≤ at) (λ (region : Region). at < region.first.0) regions index) (low : at + len ≤ 0xF0000000) (free : (x : ℕ) → at ≤ x → x < at + len → cells_of regions x ≡ None) where
+  pub added_laid_out : AreLaidOut (insert regions index region)
+  added_laid_out =
       let count : length region.bytes.items ≡ len = ap length zeros ∙ length-replicate len 0 in
-      AreLaidOut-push regions region laid_out (omega arith) (λ a held. let here = holds-true region a held in free a (omega (arith, here.0)) (omega (arith, here.0, here.1)))
+      let begun_there = subst (λ (a : ℕ). IsPartitionPoint (λ (r : Region). r.first.0 ≤ a) (λ (r : Region). a < r.first.0) regions index) (sym first) begun in
+      AreLaidOut-insert regions index region laid_out most begun_there (omega arith) (omega arith) (λ x above below. free x (omega arith) (omega arith))
 
-  pub mapped_push : mapped (cells_of (regions ++ region ∷ [])) ≡ zeros_from (mapped (cells_of regions)) at len rights
-  mapped_push =
+  pub mapped_added : mapped (cells_of (insert regions index region)) ≡ zeros_from (mapped (cells_of regions)) at len rights
+  mapped_added =
       let count : length region.bytes.items ≡ len = ap length zeros ∙ length-replicate len 0 in
       let outside = λ (x : ℕ) (out : at ≤ x → at + len ≤ x).
-      others_push regions region x (holds-outside region x (λ above. omega (arith, out (omega arith))))
+      others_insert regions index region x (holds-outside region x (λ above. omega (arith, out (omega arith))))
       ∙ sym (get_zeros_out (mapped (cells_of regions)) at len rights x out ∙ get_mapped_at regions laid_out x) in
       let inside = λ (x : ℕ) (above : at ≤ x) (below : x < at + len).
-      zeros_push regions region at len x rights first zeros same (free x above below) above below
+      zeros_insert regions index region at len x rights first zeros same (free x above below) above below
       ∙ sym (get_zeros_in (mapped (cells_of regions)) at len rights x above below) in
-      same_space _ _ (λ x. get_mapped_at (regions ++ region ∷ []) pushed_laid_out x
-      ∙ at_run at len (λ y. cells_of (regions ++ region ∷ []) y ≡ map.get (zeros_from (mapped (cells_of regions)) at len rights) y) x inside outside)
+      same_space _ _ (λ x. get_mapped_at (insert regions index region) added_laid_out x
+      ∙ at_run at len (λ y. cells_of (insert regions index region) y ≡ map.get (zeros_from (mapped (cells_of regions)) at len rights) y) x inside outside)
 
 -- what the view of a memory has, where its regions are known
 pub cells_seen : (regions items : List Region) (value : Space) → mapped (cells_of items) ≡ value → regions ≡ items → AreLaidOut items → map.get value ≡ cells_of regions

@@ -1,20 +1,21 @@
 -- What a list of regions has at an address, after a search, a write and a new region.
-use Rattle.std.proofs.Common.{◌≡◌, ℕ, zero, suc, ◌+◌, ◌-◌, ◌^◌, ◌<◌, ◌≤◌, Bool, true, false, cond, ◌&&◌, List, [], ◌∷◌, ◌++◌, length, get_or, set, take, drop, replicate, Option, None, Some, Ok, Err, is_some, refl, sym, ap, ◌∙◌, subst, arith, nat_le, nat_lt, inl, inr, if◌then◌else◌}
-use Rattle.std.specs.List.{position, position_from}
+use Rattle.std.proofs.Common.{◌≡◌, ℕ, zero, suc, ◌+◌, ◌-◌, ◌^◌, ◌<◌, ◌≤◌, Bool, true, false, cond, ◌&&◌, List, [], ◌∷◌, ◌++◌, length, get_or, set, take, drop, Option, None, Some, Ok, Err, is_some, refl, sym, ap, ◌∙◌, subst, arith, nat_le, nat_lt, inl, inr, if◌then◌else◌}
+use Rattle.std.specs.List.{All, position, position_from}
 use Rattle.std.proofs.lemmas.Bool.{cases_lt, cases_Bool, false≢true}
 use Rattle.std.proofs.lemmas.Bool.Decides.{nat_tests}
 use Rattle.std.proofs.lemmas.Iterator.Adapters.{position_from-zero}
+use Rattle.std.proofs.lemmas.List.Elements.{All-head, All-tail, All-get_or}
 use Rattle.std.proofs.lemmas.List.Quantifiers.{position-Some}
-use Rattle.std.proofs.lemmas.List.{map-set, set-get_or, get_or-map, get_or-drop, length-drop, length-take, get_or-take, get_or_read, length-map, get_or_append_left, get_or-append_right, length-take-le, length-append, get_or-set_same, length-replicate, get_or-replicate}
+use Rattle.std.proofs.lemmas.List.{map-set, set-get_or, get_or-map, get_or-drop, length-drop, length-take, get_or-take, get_or_read, length-map, get_or_append_left, get_or-append_right, length-take-le, length-append, get_or-set_same}
 use Rattle.std.specs.Option.{option_or}
 use Rattle.nd_base.specs.declared.numbers.Addr.{Addr}
 use Rattle.nd_mem.specs.declared.Rights.{Rights}
 use Rattle.nd_mem.specs.declared.MemFault.{MemFault}
 use Rattle.nd_mem.specs.declared.regions.Region.{Region}
 use Rattle.nd_mem.specs.declared.regions.Spot.{Spot}
-use Rattle.nd_mem.specs.Cell.{Cell, zero_cell, cell_with}
+use Rattle.nd_mem.specs.Cell.{Cell, cell_with}
 use Rattle.nd_mem.specs.Space.{Cells, Access, allows, denied, fault_in, fault_at, byte_in}
-use Rattle.nd_mem.specs.Regions.{holds, cell_in, cells_of, AreLaidOut, shape, shapes, allowed_or, IsSpot, IsRun, PutsBytes}
+use Rattle.nd_mem.specs.Regions.{holds, cell_in, cells_of, end_of, Joins, AreLaidOut, shape, shapes, allowed_or, IsSpot, IsRun, PutsBytes}
 use Rattle.nd_mem.proofs.Laws.{wrapped_below}
 
 -- ---- the search
@@ -78,6 +79,37 @@ spot_found access regions a i region at is inside here said =
     }
 
 -- ---- one region of a list that is laid out
+unheld_above : (region : Region) (a : ℕ) → end_of region ≤ a → holds region a ≡ false
+unheld_above region a above = grind (arith, nat_tests)
+
+unheld_below : (region : Region) (a : ℕ) → a < region.first.0 → holds region a ≡ false
+unheld_below region a below = grind (arith, nat_tests)
+
+-- an address of a region is in none that begins behind it
+none_behind : (regions : List Region) (end a : ℕ) → a < end → All (λ (region : Region). end ≤ region.first.0) regions → cells_of regions a ≡ None
+none_behind [] end a below ends = refl
+none_behind (region ∷ regions) end a below ends =
+    rw (unheld_below region a (omega (arith, All-head (λ (r : Region). end ≤ r.first.0) region regions ends)))
+    (none_behind regions end a below (All-tail (λ (r : Region). end ≤ r.first.0) region regions ends))
+
+apart : (region : Region) (regions : List Region) → Joins region regions → (a : ℕ) → holds region a ≡ true → cells_of regions a ≡ None
+apart region regions joins a here =
+    let within = holds-true region a here in
+    none_behind regions (end_of region) a (omega (arith, within.0, within.1)) joins.ends
+
+-- each region has a byte and ends before the later ones begin
+pub end_before : (regions : List Region) (i j : ℕ) (d : Region) → AreLaidOut regions → i < j → j < length regions → end_of (get_or regions i d) ≤ (get_or regions j d).first.0
+end_before [] i j d laid_out less inside = absurd (omega arith)
+end_before (region ∷ regions) i zero d laid_out less inside = absurd (omega arith)
+end_before (region ∷ regions) zero (suc j) d laid_out less inside =
+    All-get_or (λ (r : Region). end_of region ≤ r.first.0) regions j d (omega arith) laid_out.0.ends
+end_before (region ∷ regions) (suc i) (suc j) d laid_out less inside = end_before regions i j d laid_out.1 (omega arith) (omega arith)
+
+pub has_byte : (regions : List Region) (i : ℕ) (d : Region) → AreLaidOut regions → i < length regions → 0 < length (get_or regions i d).bytes.items
+has_byte [] i d laid_out inside = absurd (omega arith)
+has_byte (region ∷ regions) zero d laid_out inside = laid_out.0.some
+has_byte (region ∷ regions) (suc i) d laid_out inside = has_byte regions i d laid_out.1 (omega arith)
+
 own_in : (here : Bool) (region : Region) (a : ℕ) (rest cell : Option Cell) → (here ≡ true → rest ≡ None) → rest ≡ cell → is_some cell ≡ true → (if here then Some (cell_in region a) else rest) ≡ cell
 own_in true region a rest cell apart is some = absurd (false≢true (sym (ap is_some (apart refl)) ∙ ap is_some is ∙ some))
 own_in false region a rest cell apart is some = is
@@ -87,15 +119,12 @@ pub cells_of-own : (regions : List Region) (i a : ℕ) (d : Region) → AreLaidO
 cells_of-own [] i a d laid_out inside here = absurd (omega arith)
 cells_of-own (region ∷ regions) zero a d laid_out inside here = rw here
 cells_of-own (region ∷ regions) (suc i) a d laid_out inside here =
-    own_in (holds region a) region a _ _ (laid_out.0.apart a) (cells_of-own regions i a d laid_out.1 (omega arith) here) refl
+    own_in (holds region a) region a _ _ (apart region regions laid_out.0 a) (cells_of-own regions i a d laid_out.1 (omega arith) here) refl
 
-pub end_low : (regions : List Region) (i : ℕ) (d : Region) → AreLaidOut regions → i < length regions → (get_or regions i d).first.0 + length (get_or regions i d).bytes.items ≤ 0xF0000000
+pub end_low : (regions : List Region) (i : ℕ) (d : Region) → AreLaidOut regions → i < length regions → end_of (get_or regions i d) ≤ 0xF0000000
 end_low [] i d laid_out inside = absurd (omega arith)
 end_low (region ∷ regions) zero d laid_out inside = laid_out.0.low
 end_low (region ∷ regions) (suc i) d laid_out inside = end_low regions i d laid_out.1 (omega arith)
-
-unheld_above : (region : Region) (a : ℕ) → region.first.0 + length region.bytes.items ≤ a → holds region a ≡ false
-unheld_above region a above = grind (arith, nat_tests)
 
 pub cells_of-low : (regions : List Region) → AreLaidOut regions → (a : ℕ) → 0xF0000000 ≤ a → cells_of regions a ≡ None
 cells_of-low [] laid_out a high = refl
@@ -149,13 +178,11 @@ unheld_in : (here : Bool) (cell : Cell) (rest : Option Cell) → (if here then S
 unheld_in true cell rest none = absurd (cc)
 unheld_in false cell rest none = (refl, none)
 
-none-shapes : (new old : List Region) (a : ℕ) → shapes new ≡ shapes old → cells_of old a ≡ None → cells_of new a ≡ None
-none-shapes [] old a same none = refl
-none-shapes (r ∷ new) [] a same none = absurd (cc)
-none-shapes (r ∷ new) (q ∷ old) a same none =
-    let parts = unheld_in (holds q a) (cell_in q a) (cells_of old a) none in
-    let heads : shape r ≡ shape q = cc in
-    rw (holds-shape r q a heads ∙ parts.0) (none-shapes new old a (cc) parts.1)
+firsts-shapes : (new old : List Region) (end : ℕ) → shapes new ≡ shapes old → All (λ (region : Region). end ≤ region.first.0) old → All (λ (region : Region). end ≤ region.first.0) new
+firsts-shapes new old end same ends =
+    λ k d less.
+    let len : length new ≡ length old = omega (arith, length-map new shape, length-map old shape, ap length same) in
+    omega (arith, ap (λ (s : ℕ × ℕ × Rights). s.0) (shape_at new old k d same (omega arith)), All-get_or (λ (region : Region). end ≤ region.first.0) old k d (omega arith) ends)
 
 pub AreLaidOut-shapes : (new old : List Region) → shapes new ≡ shapes old → AreLaidOut old → AreLaidOut new
 AreLaidOut-shapes [] old same laid_out = tt
@@ -166,7 +193,8 @@ AreLaidOut-shapes (r ∷ new) (q ∷ old) same laid_out =
     let first : r.first.0 ≡ q.first.0 = ap (λ (s : ℕ × ℕ × Rights). s.0) heads in
     let len : length r.bytes.items ≡ length q.bytes.items = ap (λ (s : ℕ × ℕ × Rights). s.1) heads in (
       record {
-        apart = λ a here. none-shapes new old a tails (laid_out.0.apart a (sym (holds-shape r q a heads) ∙ here));
+        some = omega (arith, laid_out.0.some);
+        ends = firsts-shapes new old (end_of r) tails (subst (λ (end : ℕ). All (λ (region : Region). end ≤ region.first.0) old) (omega arith) laid_out.0.ends);
         low = omega (arith, laid_out.0.low);
       },
       AreLaidOut-shapes new old tails laid_out.1,
@@ -306,32 +334,6 @@ some_push regions region x some = ap is_some (cells_of-push regions region x) �
 
 pub held_push : (regions : List Region) (region : Region) (x : ℕ) → holds region x ≡ true → is_some (cells_of (regions ++ region ∷ []) x) ≡ true
 held_push regions region x held = ap is_some (cells_of-push regions region x) ∙ rw held (either_last (cells_of regions x) (cell_in region x))
-
-head_unheld : (here held : Bool) (cell : Cell) (rest : Option Cell) → here ≡ true → (held ≡ true → (if here then Some cell else rest) ≡ None) → held ≡ false
-head_unheld here true cell rest is none = absurd (false≢true (sym (ap is_some (none refl)) ∙ rw is))
-head_unheld here false cell rest is none = refl
-
-pub AreLaidOut-push : (regions : List Region) (region : Region) → AreLaidOut regions → region.first.0 + length region.bytes.items ≤ 0xF0000000 → ((a : ℕ) → holds region a ≡ true → cells_of regions a ≡ None) → AreLaidOut (regions ++ region ∷ [])
-AreLaidOut-push [] region laid_out low free = (record { apart = λ a here. refl; low = low }, tt)
-AreLaidOut-push (r ∷ regions) region laid_out low free = (
-  record {
-    apart = λ a here. none_push regions region a (laid_out.0.apart a here) (head_unheld (holds r a) (holds region a) (cell_in r a) (cells_of regions a) here (free a));
-    low = laid_out.0.low;
-  },
-  AreLaidOut-push regions region laid_out.1 low (λ a held. (unheld_in (holds r a) (cell_in r a) (cells_of regions a) (free a held)).1),
-)
-
--- new zero bytes
-pub zeros_push : (regions : List Region) (region : Region) (at len x : ℕ) (rights : Rights) → region.first.0 ≡ at → region.bytes.items ≡ replicate len 0 → region.rights ≡ rights → cells_of regions x ≡ None → at ≤ x → x < at + len → cells_of (regions ++ region ∷ []) x ≡ Some (zero_cell rights)
-zeros_push regions region at len x rights first zeros same none low high =
-    let count : length region.bytes.items ≡ len = ap length zeros ∙ length-replicate len 0 in
-    cells_of-push regions region x
-    ∙ rw (none, holds-within region x (omega arith) (omega arith))
-    (ap (λ (b : ℕ). Some (record { byte = b; rights = region.rights })) (ap (λ (bs : List ℕ). get_or bs (x - region.first.0) 0) zeros ∙ get_or-replicate len (x - region.first.0) 0 0 (omega arith))
-    ∙ ap (λ (r : Rights). Some (zero_cell r)) same)
-
-pub others_push : (regions : List Region) (region : Region) (x : ℕ) → holds region x ≡ false → cells_of (regions ++ region ∷ []) x ≡ cells_of regions x
-others_push regions region x unheld = cells_of-push regions region x ∙ rw unheld (option_or_none (cells_of regions x))
 
 pub holds-outside : (region : Region) (a : ℕ) → (region.first.0 ≤ a → region.first.0 + length region.bytes.items ≤ a) → holds region a ≡ false
 holds-outside region a out =

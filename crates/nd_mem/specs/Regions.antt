@@ -1,6 +1,6 @@
 -- A list of regions as guest memory: what it has at each address.
 use Rattle.std.specs.Prelude.{◌≡◌, ℕ, ◌+◌, ◌-◌, ◌≤◌, ◌<◌, Bool, true, false, ◌&&◌, nat_le, nat_lt, if◌then◌else◌, List, [], ◌∷◌, map, length, slice_index, None, Some, Result, Ok, Err}
-use Rattle.std.specs.List.{HoldsAt}
+use Rattle.std.specs.List.{All, HoldsAt}
 use Rattle.nd_base.specs.declared.numbers.Addr.{Addr}
 use Rattle.nd_mem.specs.declared.Rights.{Rights}
 use Rattle.nd_mem.specs.declared.MemFault.{MemFault}
@@ -24,11 +24,17 @@ abbrev pub cells_of : List Region → Cells
 cells_of [] a = None
 cells_of (region ∷ regions) a = if holds region a then Some (cell_in region a) else cells_of regions a
 
--- no address of the region is in one of the others, and each is below 0xF0000000
-pub record Joins (region : Region) (others : List Region) : Type 0 where
-  pub apart : (a : ℕ) → holds region a ≡ true → cells_of others a ≡ None
-  pub low : region.first.0 + length region.bytes.items ≤ 0xF0000000
+-- the first address behind a region
+abbrev pub end_of : Region → ℕ
+end_of region = region.first.0 + length region.bytes.items
 
+-- a region with a byte that ends before each of the others begins, and below 0xF0000000
+pub record Joins (region : Region) (others : List Region) : Type 0 where
+  pub some : 0 < length region.bytes.items
+  pub ends : All (λ (other : Region). end_of region ≤ other.first.0) others
+  pub low : end_of region ≤ 0xF0000000
+
+-- regions by rising addresses, no two of which share one
 abbrev pub AreLaidOut : List Region → Type 0
 AreLaidOut [] = Unit {0}
 AreLaidOut (region ∷ regions) = Joins region regions × AreLaidOut regions

@@ -1,4 +1,5 @@
-//! Guest memory: a finite map from addresses to a byte and its rights, kept as a list of regions.
+//! Guest memory: a finite map from addresses to a byte and its rights, kept as a list of regions by rising addresses,
+//! in which an address is found by halving.
 #![tactic(auto)]
 
 ghost use Rattle.std.specs.Prelude.{◌≡◌, ℕ, ◌+◌, ◌-◌, ◌≤◌, ◌<◌, ◌++◌, length, take, drop, IfOk, IfErr, OnOk, OnErr, ◌^◌, min, Ok, Err, Some, None, ◌≢◌};
@@ -47,7 +48,7 @@ pub enum RegionRefusal {
     Overlaps(Addr),
 }
 
-/// The memory of a guest.
+/// The memory of a guest: its regions, by rising addresses.
 #[derive(Drop)]
 pub struct Memory {
     regions: Vec<Region>,
@@ -122,10 +123,14 @@ impl Memory {
         if let Some(refusal) = self.region_refusal(at, len) {
             return Err(refusal);
         }
+        if len == 0 {
+            return Ok(());
+        }
         let Ok(region) = Region::zeroed(alloc, at, len, rights) else {
             return Err(RegionRefusal::OutOfMemory);
         };
-        if self.regions.push(region).is_err() {
+        let index = regions::count_begun(&self.regions, at);
+        if self.regions.insert(index, region).is_err() {
             return Err(RegionRefusal::OutOfMemory);
         }
         Ok(())

@@ -3,6 +3,7 @@
 
 ghost use Rattle.std.specs.Prelude.{◌≡◌, ℕ, ◌+◌, ◌-◌, ◌≤◌, ◌<◌, ◌++◌, length, take, drop, replicate, true, false, IfOk, IfErr, OnOk, OnErr, Ok, Err, Some, None, is_some};
 ghost use Rattle.std.specs.List.{position};
+ghost use Rattle.std.specs.List.Sorted.{IsPartitionPoint};
 ghost use Rattle.nd_mem.specs.Space.{first_fault, answer_of, allows, bytes_from, executable_run, fault_at, Executing, Reading};
 ghost use Rattle.nd_mem.specs.Regions.{holds, cells_of, AreLaidOut, shapes, access_of, allowed_or, IsSpot, IsRun, PutsBytes};
 
@@ -97,15 +98,31 @@ pub struct Spot {
     offset: usize,
 }
 
-/// The index of the region that holds an address.
+/// How many regions begin at an address or below it.
+pub fn count_begun(regions: &[Region], at: Addr) -> usize
+    requires { AreLaidOut regions.now }
+    ensures begun { IsPartitionPoint (λ region. region.first.0 ≤ at.0) (λ region. at.0 < region.first.0) regions.now result }
+    ensures most { result ≤ length regions.now }
+{
+    regions.partition_point(|region| region.first.0 <= at.0)
+}
+
+/// The index of the region that holds an address: it is the last that begins there or below.
 fn holder_of(regions: &[Region], at: Addr) -> Option<usize>
+    requires { AreLaidOut regions.now }
     ensures { result ≡ position (λ region. holds region at.0) regions.now }
 {
-    regions.iter().position(|region| region.holds(at))
+    let begun = count_begun(regions, at);
+    if begun > 0 && regions[begun - 1].holds(at) {
+        Some(begun - 1)
+    } else {
+        None
+    }
 }
 
 /// Where an address stands, if the access may have its byte.
 fn spot_of(regions: &[Region], purpose: Purpose, at: Addr) -> Result<Spot, MemFault>
+    requires { AreLaidOut regions.now }
     ensures ok { IfOk result (IsSpot (access_of purpose) regions.now at.0) }
     ensures err { IfErr result (λ fault. fault_at (access_of purpose) (cells_of regions.now) at.0 ≡ Some fault) }
 {

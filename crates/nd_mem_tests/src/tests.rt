@@ -93,6 +93,22 @@ fn a_write_goes_on_in_the_next_region(rt: HostRuntime) {
 }
 
 #[test]
+fn regions_without_bytes_take_nothing(rt: HostRuntime) {
+    let mut memory = Memory::new(rt.alloc());
+    let written = adds(rt.alloc(), &mut memory, 0x1000, 16, ALL)
+        && adds(rt.alloc(), &mut memory, 0x1008, 0, READ_ONLY)
+        && adds(rt.alloc(), &mut memory, 0x1010, 0, READ_ONLY)
+        && adds(rt.alloc(), &mut memory, 0x1010, 16, ALL)
+        && adds(rt.alloc(), &mut memory, 0x0FF0, 16, ALL)
+        && writes(&mut memory, 0x1007, &[1, 2, 3, 4])
+        && writes(&mut memory, 0x0FFE, &[5, 6, 7, 8])
+        && four_at(&memory, 0x1007) == Ok([1, 2, 3, 4])
+        && four_at(&memory, 0x0FFE) == Ok([5, 6, 7, 8])
+        && four_at(&memory, 0x101D) == Err(MemFault::Unmapped(Addr(0x1020)));
+    assert!(rt; written);
+}
+
+#[test]
 fn a_refused_write_changes_nothing(rt: HostRuntime) {
     let mut memory = Memory::new(rt.alloc());
     let kept = adds(rt.alloc(), &mut memory, 0x1000, 4, ALL)

@@ -3,8 +3,8 @@ use Rattle.std.proofs.Common.{◌≡◌, ℕ, ◌<◌, List, [], ◌∷◌, leng
 use Rattle.std.proofs.lemmas.Bool.{lt-leb, lt-ltb}
 use Rattle.pe_image.specs.Reading.{reading}
 use Rattle.pe_image.specs.declared.refusal.PeRefusal.TheVariants.{TooLarge}
-use Rattle.inf_file.specs.Reading.{sections_of}
-use Rattle.inf_file.specs.declared.refusal.InfRefusal.TheVariants as inf
+use Rattle.inf_text.specs.Reading.{sections_of}
+use Rattle.inf_text.specs.declared.refusal.InfRefusal.TheVariants as inf
 use Rattle.printed_lines.specs.ImageLines.{image_line}
 use Rattle.printed_lines.specs.ParameterLines.{inf_line}
 use Rattle.pe_image.specs.Image.{ImageParts, ImportParts}

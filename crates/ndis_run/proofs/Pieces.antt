@@ -29,11 +29,14 @@ printed_more told first bytes done n k less is =
 
 -- the file so far, after one more append
 pub appended_more : ((files : Kept) (name bytes : List ℕ) → bytes_at (insert files name bytes) name ≡ bytes) → ((files : Kept) (name first last : List ℕ) → insert (insert files name first) name last ≡ insert files name last)
-    → (told : Option Kept) (m : Kept) (name bytes : List ℕ) (done n k : ℕ) → n ≤ k
-    → told ≡ Some (insert (insert m name (take done bytes)) name (bytes_at (insert m name (take done bytes)) name ++ take n (take k (drop done bytes))))
-    → told ≡ Some (insert m name (take (done + n) bytes))
-appended_more set last told m name bytes done n k less is =
-    is ∙ ap Some (last m name _ _ ∙ ap (insert m name) (ap (λ xs. xs ++ take n (take k (drop done bytes))) (set m name (take done bytes)) ∙ front_more bytes done n k less))
+    → (told : Option Kept) (m : Kept) (name before bytes : List ℕ) (done n k : ℕ) → n ≤ k
+    → told ≡ Some (insert (insert m name (before ++ take done bytes)) name (bytes_at (insert m name (before ++ take done bytes)) name ++ take n (take k (drop done bytes))))
+    → told ≡ Some (insert m name (before ++ take (done + n) bytes))
+appended_more set last told m name before bytes done n k less is =
+    let piece : List ℕ = take n (take k (drop done bytes)) in
+    let file : bytes_at (insert m name (before ++ take done bytes)) name ++ piece ≡ before ++ take (done + n) bytes =
+    ap (λ xs. xs ++ piece) (set m name (before ++ take done bytes)) ∙ append_assoc before (take done bytes) piece ∙ ap (λ xs. before ++ xs) (front_more bytes done n k less) in
+    is ∙ ap Some (last m name _ _ ∙ ap (insert m name) file)
 
 take_own : (k : ℕ) (file xs : List ℕ) → xs ≡ take k file → xs ≡ take (length xs) file
 take_own k file xs is =

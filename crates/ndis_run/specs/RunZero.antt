@@ -6,10 +6,10 @@ use Rattle.pe_image.specs.Image.{ImageParts}
 use Rattle.pe_image.specs.declared.refusal.PeRefusal.{PeRefusal}
 use Rattle.pe_image.specs.declared.refusal.PeRefusal.TheVariants.{OutOfMemory}
 use Rattle.printed_lines.specs.ImageLines.{image_line, unknown_import_line}
-use Rattle.driver_entry.specs.declared.entries.Entry.{Entry}
+use Rattle.call_log.specs.declared.entry.Entry.{Entry}
 use Rattle.driver_entry.specs.declared.session.Ending.{Ending}
 use Rattle.driver_entry.specs.declared.session.Ending.TheVariants.{Left, Faulting, Spent}
-use Rattle.driver_entry.specs.Entries.{text_of}
+use Rattle.call_log.specs.Lines.{log_text}
 use Rattle.driver_entry.specs.Run.{Inputs, IsWhole, charged}
 use Rattle.ndis_run.specs.declared.run_zero.Finished.{Finished}
 use Rattle.ndis_run.specs.declared.run_zero.Failure.{Failure}
@@ -28,7 +28,7 @@ pub record HasRun (image : ImageParts) (ending : Ending) (sum : ℕ) (text : Lis
   pub entries : List Entry
   pub whole : IsWhole (usual image) entries ending
   pub is_sum : sum ≡ charged entries
-  pub is_text : text ≡ text_of entries
+  pub is_text : text ≡ log_text entries
 
 -- the status of a run's end
 abbrev pub status_of : Ending → ℕ

@@ -6,12 +6,12 @@ use Rattle.std.specs.Char.Escape.{encode_utf16}
 use Rattle.pe_image.specs.Image.{ImageParts, ImportParts}
 use Rattle.pe_image.specs.Reading.{reading}
 use Rattle.pe_image.specs.declared.refusal.PeRefusal.{PeRefusal}
-use Rattle.inf_file.specs.Sections.{Section}
-use Rattle.inf_file.specs.Reading as inf
+use Rattle.inf_text.specs.Sections.{Section}
+use Rattle.inf_text.specs.Reading as inf
 use Rattle.inf_file.specs.Parameters.{parameters_of}
 use Rattle.inf_file.specs.declared.param.Param.{Param}
 use Rattle.inf_file.specs.declared.param.ParamRefusal.{ParamRefusal}
-use Rattle.inf_file.specs.declared.refusal.InfRefusal.{InfRefusal}
+use Rattle.inf_text.specs.declared.refusal.InfRefusal.{InfRefusal}
 use Rattle.printed_lines.specs.ParameterLines.{parameter_lines, inf_line, parameters_line}
 use Rattle.printed_lines.specs.ImageLines.{image_lines, image_line, unknown_import_line}
 

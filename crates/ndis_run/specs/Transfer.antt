@@ -20,6 +20,14 @@ abbrev pub AddsFronts : Option (List ℕ) → Option (List ℕ) → List ℕ →
 AddsFronts old new line last = (before : List ℕ) → old ≡ Some before
     → (n : ℕ) × (k : ℕ) × (n ≤ length line) × (k ≤ length last) × (new ≡ Some (before ++ take n line ++ take k last))
 
+-- where the files are told, and one name was set to some bytes, these bytes stand behind them now, and no other file changed
+abbrev pub Appends : Option Kept → Option Kept → List ℕ → List ℕ → Type 0
+Appends old new name bytes = (m : Kept) (before : List ℕ) → old ≡ Some (insert m name before) → new ≡ Some (insert m name (before ++ bytes))
+
+-- the same of the first of these bytes
+abbrev pub AppendsFront : Option Kept → Option Kept → List ℕ → List ℕ → Type 0
+AppendsFront old new name bytes = (m : Kept) (before : List ℕ) → old ≡ Some (insert m name before) → (n : ℕ) × (n ≤ length bytes) × (new ≡ Some (insert m name (before ++ take n bytes)))
+
 -- where the files are told, one name now has these bytes, and no other changed
 abbrev pub Writes : Option Kept → Option Kept → List ℕ → List ℕ → Type 0
 Writes old new name bytes = (m : Kept) → old ≡ Some m → new ≡ Some (insert m name bytes)

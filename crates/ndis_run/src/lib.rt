@@ -2,6 +2,7 @@
 #![tactic(auto)]
 
 pub mod laws;
+mod log_file;
 pub mod ndis;
 pub mod printing;
 pub mod real_devices;

@@ -1,19 +1,22 @@
 //! `run0 SYS LOG`: DriverEntry of an image alone.
 
-ghost use Rattle.std.specs.Prelude.{◌≡◌, [], ◌≢◌, ℕ, ◌<◌, ◌⊎◌, Some, None, Ok, Err, IfOk, IfErr, OnOk, OnErr, IsTrue, List, string_bytes};
+ghost use Rattle.std.specs.Prelude.{◌≡◌, [], ◌≢◌, ℕ, ◌<◌, ◌⊎◌, Some, None, Ok, Err, IfOk, IfErr, OnOk, OnErr, IsTrue, List};
 ghost use Rattle.std.specs.FinMap.{insert};
 ghost use Rattle.nd_base.specs.Files.{Kept, bytes_at, Rose, OnlyReads, OnlyWrites};
 ghost use Rattle.pe_image.specs.Image.{ImageParts};
 ghost use Rattle.printed_lines.specs.ImageLines.{image_line};
 ghost use Rattle.ndis_run.specs.Printed.{driver_entry_line, ending_text};
+ghost use Rattle.call_log.specs.Lines.{log_text};
 ghost use Rattle.driver_entry.specs.Run.{Inputs};
 ghost use Rattle.ndis_run.specs.Transfer.{WritesFront};
 ghost use Rattle.ndis_run.specs.Shown.{served, judged};
 ghost use Rattle.ndis_run.specs.Devices.{storage};
 ghost use Rattle.ndis_run.specs.RunZero.{HasRun, IsRefusalLine, RunsAndLogs, usual};
 
-use crate::transfer::{ReadFailure, read_file, write_file};
-use driver_entry::{Ending, Session, text_of};
+use crate::log_file::write_log;
+use crate::transfer::{ReadFailure, read_file};
+use call_log::Log;
+use driver_entry::{Ending, Session};
 use nd_base::{Bytes, Files, IoFault, OutOfMemory};
 use pe_image::{Image, PeRefusal};
 use printed_lines::{image_line, unknown_import_line};
@@ -113,8 +116,7 @@ pub struct Finished {
     pub ending: Ending,
     /// How many instructions it took.
     pub charged: u32,
-    /// The log's text.
-    pub text: String,
+    pub log: Log,
 }
 
 /// Runs DriverEntry of an image.
@@ -122,15 +124,14 @@ pub fn run_image(alloc: Global, image: &Image) -> Result<Finished, OutOfMemory>
     ghost inputs: { Inputs }
     requires given { inputs ≡ usual image.now }
     requires no_imports { image.now.imports ≡ [] }
-    ensures { IfOk result (λ finished. HasRun image.now finished.ending finished.charged (string_bytes finished.text)) }
+    ensures { IfOk result (λ finished. HasRun image.now finished.ending finished.charged (log_text finished.log.entries)) }
 {
     let mut session = Session::enter(alloc, image, BUDGET)?;
     let ending = session.finish()?;
-    let text = text_of(alloc, &session.log)?;
     Ok(Finished {
         ending,
         charged: session.charged,
-        text,
+        log: session.log,
     })
 }
 
@@ -153,7 +154,7 @@ pub fn log_run<F: Files>(
         Ok(finished) => finished,
         Err(_) => return Err(Failure::Memory),
     };
-    match write_file(files, log, finished.text.as_bytes()) {
+    match write_log(alloc, files, log, &finished.log) {
         Ok(()) => Ok(finished),
         Err(IoFault::Failed) => Err(Failure::Unwritten),
         Err(IoFault::Memory) => Err(Failure::Memory),

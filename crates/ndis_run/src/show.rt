@@ -12,7 +12,8 @@ ghost use Rattle.inf_file.specs.Parameters.{parameters_of};
 use crate::printing::IMAGE_REFUSED;
 use crate::run_zero::IMAGE_LIMIT;
 use crate::transfer::{ReadFailure, read_file};
-use inf_file::{Inf, InfRefusal, ParamRefusal};
+use inf_file::{ParamRefusal, parameters};
+use inf_text::{Inf, InfRefusal};
 use nd_base::{Bytes, Files, OutOfMemory, Wide};
 use pe_image::{Image, PeRefusal};
 use printed_lines::{image_line, image_lines, inf_line, parameter_lines, parameters_line};
@@ -125,7 +126,7 @@ fn judge_parameters(alloc: Global, inf: &Inf, id: &[u16]) -> Result<Answer, OutO
     ensures value { IfOk result (λ a. answer a.status a.text ≡ shown_parameters (parameters_of inf.now id.now)) }
     ensures status { IfOk result (λ a. (a.status ≡ 0) ⊎ (a.status ≡ 6)) }
 {
-    match inf.parameters(alloc, id) {
+    match parameters(inf, alloc, id) {
         Ok(parameters) => Ok(Answer {
             status: 0,
             text: parameter_lines(alloc, &parameters)?,

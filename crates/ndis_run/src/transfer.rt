@@ -2,7 +2,7 @@
 
 ghost use Rattle.std.specs.Prelude.{◌≡◌, ◌≢◌, ℕ, ◌≤◌, ◌<◌, ◌^◌, Some, None, length, IfOk, IfErr, OnOk, OnErr, IsErrOf, IsTrue};
 ghost use Rattle.nd_base.specs.Files.{Kept, bytes_at, Rose, OnlyReads, OnlyWrites};
-ghost use Rattle.ndis_run.specs.Transfer.{Adds, AddsFront, Writes, WritesFront};
+ghost use Rattle.ndis_run.specs.Transfer.{Adds, AddsFront, Appends, AppendsFront};
 
 use nd_base::laws::{looks_add_up, set_files_are_kept, writes_add_up};
 use nd_base::{Files, IoFault, Sink};
@@ -27,18 +27,17 @@ pub fn print<O: Sink>(out: &mut O, piece: &[u8]) -> Result<(), IoFault>
 /// How many bytes are appended to a file at a time.
 const PIECE: usize = 4096;
 
-/// Makes a file of these bytes, in place of one that has the name.
-pub fn write_file<F: Files>(files: &mut F, name: &str, bytes: &[u8]) -> Result<(), IoFault>
+/// Puts all of these bytes behind the last byte of a file.
+pub fn append_all<F: Files>(files: &mut F, name: &str, bytes: &[u8]) -> Result<(), IoFault>
     requires { IsTrue (F.may_write files.old name.now) }
-    ensures ok { OnOk result (Writes (F.kept files.old) (F.kept files.new) name.now bytes.now) }
-    ensures front { WritesFront (F.kept files.old) (F.kept files.new) name.now bytes.now }
+    ensures ok { OnOk result (Appends (F.kept files.old) (F.kept files.new) name.now bytes.now) }
+    ensures front { AppendsFront (F.kept files.old) (F.kept files.new) name.now bytes.now }
     ensures cause { IsErrOf result IoFault.Failed → Rose (F.write_faults files.old) (F.write_faults files.new) }
     ensures quiet { OnOk result (F.write_faults files.new ≡ F.write_faults files.old) }
     ensures only { OnlyWrites F.read_faults F.write_faults F.may_read F.may_write files.old files.new }
 {
     writes_add_up::<F>();
     set_files_are_kept();
-    files.create(name)?;
     let mut done = 0;
     while done < bytes.len() {
         let end = bytes.len().min(done + PIECE);

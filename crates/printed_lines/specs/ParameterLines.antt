@@ -5,8 +5,8 @@ use Rattle.nd_base.specs.Text.{hex_word, hex_unit, line, numbered}
 use Rattle.inf_file.specs.declared.param.Param.{Param}
 use Rattle.inf_file.specs.declared.param.ParamValue.{ParamValue}
 use Rattle.inf_file.specs.declared.param.ParamValue.TheVariants.{Text, Number}
-use Rattle.inf_file.specs.declared.refusal.InfRefusal.{InfRefusal}
-use Rattle.inf_file.specs.declared.refusal.InfRefusal.TheVariants as inf
+use Rattle.inf_text.specs.declared.refusal.InfRefusal.{InfRefusal}
+use Rattle.inf_text.specs.declared.refusal.InfRefusal.TheVariants as inf
 use Rattle.inf_file.specs.declared.param.ParamRefusal.{ParamRefusal}
 use Rattle.inf_file.specs.declared.param.ParamRefusal.TheVariants as param
 

@@ -5,7 +5,8 @@ ghost use Rattle.printed_lines.specs.ParameterLines.{inf_line, parameters_line};
 ghost use Rattle.printed_lines.specs.RefusalLine.{refusal_line};
 
 use crate::refusal_line::refusal_line;
-use inf_file::{InfRefusal, ParamRefusal};
+use inf_file::ParamRefusal;
+use inf_text::InfRefusal;
 use nd_base::{Bytes, OutOfMemory};
 use std::alloc::Global;
 

@@ -1,6 +1,7 @@
 //! The line of each refusal.
 
-use inf_file::{InfRefusal, ParamRefusal};
+use inf_file::ParamRefusal;
+use inf_text::InfRefusal;
 use nd_base::{Bytes, OutOfMemory};
 use pe_image::PeRefusal;
 use printed_lines::{image_line, inf_line, parameters_line, unknown_import_line};

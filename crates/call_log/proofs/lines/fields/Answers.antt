@@ -1,7 +1,7 @@
 use Rattle.std.proofs.Common.{sym, subst}
-use Rattle.call_log.specs.Codes.{Gives}
+use Rattle.log_fields.specs.Codes.{Gives}
 use Rattle.call_log.specs.Lines.{line_of, read_fields}
-use Rattle.call_log.specs.declared.names.Kind.{Kind}
+use Rattle.call_log.specs.declared.kinds.Kind.{Kind}
 use Rattle.call_log.proofs.lines.fields.Goals as goal
 
 pub returns-in-Bind : goal.returns-in-Bind

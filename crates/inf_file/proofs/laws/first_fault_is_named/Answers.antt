@@ -1,4 +1,4 @@
-use Rattle.inf_file.proofs.FaultLaws.{no-string, bad-value, no-fault}
+use Rattle.inf_file.proofs.AnswerLaws.{no-string, bad-value, no-fault}
 use Rattle.inf_file.proofs.laws.first_fault_is_named.Goals as goal
 
 pub returns-clause-no_string : goal.returns-clause-no_string

@@ -1,7 +1,7 @@
 use Rattle.std.proofs.Common.{◌≡◌, false, take}
 use Rattle.std.specs.List.{list_any}
 use Rattle.inf_file.specs.Keyed.{string_in}
-use Rattle.inf_file.specs.Sections.{is_same}
+use Rattle.inf_text.specs.Names.{is_same}
 use Rattle.inf_file.specs.Strings.{replaced}
 use Rattle.inf_file.proofs.models.has_id.Given as goal
 

@@ -2,7 +2,7 @@ use Rattle.std.proofs.Common.{Bor, List, map, ap, ◌∙◌, ◌≡◌}
 use Rattle.std.specs.List.{filter_map}
 use Rattle.std.specs.Option.{option_copied}
 use Rattle.std.proofs.lemmas.Result.{IfOk-weaker}
-use Rattle.inf_file.specs.declared.sections.Line.{Line}
+use Rattle.inf_text.specs.declared.line.Line.{Line}
 use Rattle.inf_file.specs.Keyed.{string_in}
 use Rattle.inf_file.specs.Earliest.{earliest}
 use Rattle.inf_file.specs.Models.{models_place, has_id, model_of}

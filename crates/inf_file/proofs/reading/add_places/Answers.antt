@@ -2,7 +2,7 @@ use Rattle.std.proofs.Common.{[], ◌++◌, List, Option, ℕ, take, sym, ap, �
 use Rattle.std.specs.List.{filter_map, cons_option}
 use Rattle.std.proofs.lemmas.List.{append-nil}
 use Rattle.inf_file.specs.Keyed.{string_in}
-use Rattle.inf_file.specs.Sections.{place_named}
+use Rattle.inf_text.specs.Sections.{place_named}
 use Rattle.inf_file.specs.Strings.{replaced}
 use Rattle.inf_file.specs.Parameters.{named_places}
 use Rattle.inf_file.proofs.ListLemmas.{filter_map-more}

@@ -21,7 +21,7 @@ returns-clause-open g c =
     let new = machine made.new.regs made.new.memory in
     let turn = is_turn g.inputs.budget c.args.self.now.charged _ made.result.count old new made.result.last (omega arith) made.ensures.count (omega arith) c.requires.unspent made.ensures.moves made.ensures.state made.ensures.whole made.ensures.ending in
     record {
-      reached = turn_logged_as g.inputs c.args.self.now.log.items _ old new c.args.self.now.charged made.result.count c.from.result c.from-2.result c.requires.reached turn made.ensures.state c.in_ok-push.ensures.items c.from.ensures c.from-2.ensures;
+      reached = turn_logged_as g.inputs c.args.self.now.log.entries _ old new c.args.self.now.charged made.result.count c.from.result c.from-2.result c.requires.reached turn made.ensures.state c.in_ok-push.ensures.ok c.from.ensures c.from-2.ensures;
       budget = c.requires.budget;
       within = omega (arith, turn.within, c.from-2.ensures);
     }

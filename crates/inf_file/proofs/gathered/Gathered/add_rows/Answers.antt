@@ -1,7 +1,6 @@
 use Rattle.std.proofs.Common.{Bor, ◌++◌, [], None, Option, List, map, take, sym, ap, ◌∙◌, append_assoc, arith}
 use Rattle.std.specs.List.{filter_map, cons_option}
-use Rattle.std.specs.Option.{option_copied}
-use Rattle.inf_file.specs.declared.sections.Line.{Line}
+use Rattle.inf_text.specs.declared.line.Line.{Line}
 use Rattle.inf_file.specs.declared.param.Param.{Param}
 use Rattle.inf_file.specs.Keyed.{string_in}
 use Rattle.inf_file.specs.Earliest.{earlier_if}

@@ -1,12 +1,22 @@
-use Rattle.std.proofs.Common.{sym, ◌∙◌, ap, List}
-use Rattle.std.proofs.lemmas.Result.{on_ok_weaker}
-use Rattle.inf_file.specs.Rows.{param_place}
-use Rattle.inf_file.proofs.ParamLemmas.{with_default-new, with_default-old}
+use Rattle.std.proofs.Common.{◌≡◌, List, ℕ, sym, ap, ◌∙◌}
+use Rattle.inf_file.specs.Keyed.{params_in}
+use Rattle.inf_file.specs.Rows.{with_default}
+use Rattle.inf_file.specs.declared.param.Param.{Param}
+use Rattle.inf_file.specs.declared.param.ParamValue.{ParamValue}
+use Rattle.inf_file.proofs.ParamLemmas.{default-old, default-new}
 use Rattle.inf_file.proofs.gathered.Params.set_default.Goals as goal
 
-pub returns-in-Some : goal.returns-in-Some
-returns-in-Some c = sym (with_default-old c.args.self.now c.args.param c.in-Some.field-0 (ap (λ n. param_place n c.args.self.now) (sym c.as_slice.ensures) ∙ sym c.in_ok-place.ensures ∙ c.in-Some.is))
+-- what a table's parameters are with a default of this name is what they are with the default that is given
+same_param : (es : List (List ℕ × ParamValue)) (ps : List Param) (name : List ℕ) (p : Param) → name ≡ p.name → params_in es ≡ ps → with_default (params_in es) (record { name = name; value = p.value }) ≡ with_default ps p
+same_param es ps name p n e = ap (λ (m : List ℕ). with_default (params_in es) (record { name = m; value = p.value })) n ∙ ap (λ (qs : List Param). with_default qs p) e
 
-pub returns-in-None : goal.returns-in-None
-returns-in-None c =
-    on_ok_weaker c.push.result (λ e. e ∙ sym (with_default-new c.args.self.now c.args.param (ap (λ n. param_place n c.args.self.now) (sym c.as_slice.ensures) ∙ sym c.in_ok-place.ensures ∙ c.in-None.is))) c.push.ensures
+pub returns-then-contains_key : goal.returns-then-contains_key
+returns-then-contains_key c =
+    let es = c.self.inside.table.entries in
+    sym c.self.view_is ∙ default-old es c.new-name.result c.args.param.value (sym c.contains_key.ensures ∙ c.if-contains_key.true) ∙ same_param es c.args.self.now c.new-name.result c.args.param c.new-name.ensures c.self.view_is
+
+pub returns : goal.returns
+returns c =
+    let es = c.self.inside.table.entries in
+    ap (λ (fs : List (List ℕ × ParamValue)). params_in fs) c.in_ok-insert.ensures.entries ∙ default-new es c.new-name.result c.args.param.value (sym c.contains_key.ensures ∙ c.if-contains_key.false)
+    ∙ same_param es c.args.self.now c.new-name.result c.args.param c.new-name.ensures c.self.view_is

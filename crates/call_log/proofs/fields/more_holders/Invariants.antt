@@ -1,7 +1,0 @@
-use Rattle.std.proofs.Common.{◌≡◌, ◌-◌, length, map}
-use Rattle.call_log.specs.Codes.{read_more, with_front}
-use Rattle.call_log.specs.Lines.{small}
-use Rattle.call_log.proofs.fields.more_holders.Given as goal
-
-abbrev pub invariant-loop : goal.invariant-loop
-invariant-loop l = with_front (map (λ h. h.0) l.holders) (read_more small (length l.bytes - l.counter) l.rest) ≡ with_front (map (λ h. h.0) l.fn.holders) (read_more small (length l.bytes) l.bytes)

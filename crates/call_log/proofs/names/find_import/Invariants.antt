@@ -1,7 +1,0 @@
-use Rattle.std.proofs.Common.{◌≡◌, ◌-◌, ◌<◌, ◌≤◌}
-use Rattle.call_log.specs.Codes.{find}
-use Rattle.call_log.specs.Names.{import_name, imports_all, counted}
-use Rattle.call_log.proofs.names.find_import.Given as goal
-
-abbrev pub invariant-loop-n : goal.invariant-loop-n
-invariant-loop-n l = find import_name (counted l.n (65 - l.n)) l.name ≡ find import_name imports_all l.name

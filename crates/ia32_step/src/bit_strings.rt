@@ -1,0 +1,109 @@
+//! Bits of operands.
+
+ghost use Rattle.std.specs.Prelude.{◌≡◌, ◌<◌, IfOk};
+ghost use Rattle.ia32_arithmetic.specs.Widths.{size};
+ghost use Rattle.ia32_step.specs.State.{machine};
+ghost use Rattle.ia32_step.specs.Operands.{IsEffect};
+ghost use Rattle.ia32_step.specs.BitStrings.{displacement, place_of_bit, bit_done, scanned_forward, scanned_back};
+
+use crate::effects::{Effect, Stop, settled, stored};
+use crate::operands::load;
+use crate::registers::Regs;
+use ia32_arithmetic::{
+    BitOp, Flags, Width, change_bit, has_bit, highest_bit, lowest_bit, sign_extended,
+};
+use ia32_decode::{Instr, Operand};
+use nd_mem::Memory;
+
+/// How far the number with the bit is from the operand's address, in bytes.
+#[tactic(auto, unfolding(crate::specs::BitStrings::displacement))]
+fn displacement(w: Width, offset: u32) -> u32
+    requires { offset < size w }
+    ensures { result ≡ displacement w offset }
+{
+    let extended = u64::from(sign_extended(w, Width::Doubleword, offset));
+    let above = (extended + 0x8000_0000) % 0x1_0000_0000;
+    let places = above / u64::from(w.bits()) * u64::from(w.bytes());
+    ((places + 0xF000_0000) % 0x1_0000_0000) as u32
+}
+
+/// The operand with the bit.
+#[tactic(auto, unfolding(crate::specs::BitStrings::place_of_bit))]
+fn place_of_bit(i: Instr, w: Width, offset: u32) -> Operand
+    requires { offset < size w }
+    ensures { result ≡ place_of_bit i w offset }
+{
+    let distance = displacement(w, offset);
+    match (i.first, i.second) {
+        (
+            Operand::Place {
+                base,
+                index,
+                scale,
+                offset,
+            },
+            Operand::Reg(_),
+        ) => Operand::Place {
+            base,
+            index,
+            scale,
+            offset: offset.wrapping_add(distance),
+        },
+        _ => i.first,
+    }
+}
+
+/// BT, and with an operation BTS, BTR, BTC.
+#[tactic(auto, unfolding(crate::specs::BitStrings::bit_done))]
+pub fn bit_done(op: Option<BitOp>, i: Instr, w: Width, r: &Regs, m: &Memory) -> Result<Effect, Stop>
+    ensures value { result ≡ bit_done op i w (machine r.now m.now) }
+    ensures effect { IfOk result IsEffect }
+{
+    let offset = load(w, i.second, i.imm, r, m)?;
+    let place = place_of_bit(i, w, offset);
+    let n = (offset % u32::from(w.bits())) as u8;
+    let a = load(w, place, i.imm, r, m)?;
+    let flags = Flags {
+        carry: has_bit(a, n),
+        ..r.flags
+    };
+    let e = settled(*r, flags);
+    match op {
+        None => Ok(e),
+        Some(op) => Ok(stored(w, place, change_bit(op, w, a, n), r, e)),
+    }
+}
+
+/// BSF
+#[tactic(auto, using(crate::proofs::Sets::sizes), unfolding(crate::specs::BitStrings::scanned_forward))]
+pub fn scanned_forward(i: Instr, w: Width, r: &Regs, m: &Memory) -> Result<Effect, Stop>
+    ensures value { result ≡ scanned_forward i w (machine r.now m.now) }
+    ensures effect { IfOk result IsEffect }
+{
+    let a = load(w, i.second, i.imm, r, m)?;
+    let flags = Flags {
+        zero: a == 0,
+        ..r.flags
+    };
+    if a == 0 {
+        return Ok(settled(*r, flags));
+    }
+    Ok(stored(w, i.first, lowest_bit(a), r, settled(*r, flags)))
+}
+
+/// BSR
+#[tactic(auto, using(crate::proofs::Sets::sizes), unfolding(crate::specs::BitStrings::scanned_back))]
+pub fn scanned_back(i: Instr, w: Width, r: &Regs, m: &Memory) -> Result<Effect, Stop>
+    ensures value { result ≡ scanned_back i w (machine r.now m.now) }
+    ensures effect { IfOk result IsEffect }
+{
+    let a = load(w, i.second, i.imm, r, m)?;
+    let flags = Flags {
+        zero: a == 0,
+        ..r.flags
+    };
+    if a == 0 {
+        return Ok(settled(*r, flags));
+    }
+    Ok(stored(w, i.first, highest_bit(a), r, settled(*r, flags)))
+}

@@ -1,0 +1,191 @@
+//! String instructions.
+
+ghost use Rattle.std.specs.Prelude.{◌≡◌, IfOk};
+ghost use Rattle.ia32_step.specs.State.{machine};
+ghost use Rattle.ia32_step.specs.Operands.{IsEffect};
+ghost use Rattle.ia32_step.specs.Strings.{next_of, copied, filled, taken, scanned, compared_strings, once, while_equal, goes_on, counted_down, string_done};
+
+use crate::effects::{Effect, Stop, Write, settled};
+use crate::operands::read;
+use crate::registers::{ECX, EDI, ESI, Regs, part, with_part};
+use ia32_arithmetic::{BinaryOp, Flags, Width, binary};
+use ia32_decode::{Instr, Repeat};
+use nd_mem::Memory;
+
+/// A string instruction.
+#[derive(Clone, Copy, Debug, PartialEq, Eq)]
+pub enum StringOp {
+    Cmps,
+    Lods,
+    Movs,
+    Scas,
+    Stos,
+}
+
+/// The number of AL, AX, EAX.
+const ACCUMULATOR: u8 = 0;
+
+/// The address of the next element.
+#[tactic(auto, unfolding(crate::specs::Strings::next_of))]
+fn next_of(w: Width, at: u32, f: Flags) -> u32
+    ensures { result ≡ next_of w at f }
+{
+    if f.direction {
+        at.wrapping_sub(w.bytes())
+    } else {
+        at.wrapping_add(w.bytes())
+    }
+}
+
+/// MOVS
+#[tactic(auto, unfolding(crate::specs::Strings::copied))]
+fn copied(w: Width, r: &Regs, m: &Memory) -> Result<Effect, Stop>
+    ensures value { result ≡ copied w (machine r.now m.now) }
+    ensures effect { IfOk result IsEffect }
+{
+    let from = r.general[ESI];
+    let to = r.general[EDI];
+    let v = read(w, from, m)?;
+    let mut next = *r;
+    next.general[ESI] = next_of(w, from, r.flags);
+    next.general[EDI] = next_of(w, to, r.flags);
+    Ok(Effect {
+        registers: next,
+        write: Write::Number(w, to, v),
+    })
+}
+
+/// STOS
+#[tactic(auto, unfolding(crate::specs::Strings::filled))]
+fn filled(w: Width, r: &Regs) -> Result<Effect, Stop>
+    ensures value { result ≡ filled w r.now }
+    ensures effect { IfOk result IsEffect }
+{
+    let to = r.general[EDI];
+    let mut next = *r;
+    next.general[EDI] = next_of(w, to, r.flags);
+    Ok(Effect {
+        registers: next,
+        write: Write::Number(w, to, part(w, ACCUMULATOR, r)),
+    })
+}
+
+/// LODS
+#[tactic(auto, unfolding(crate::specs::Strings::taken))]
+fn taken(w: Width, r: &Regs, m: &Memory) -> Result<Effect, Stop>
+    ensures value { result ≡ taken w (machine r.now m.now) }
+    ensures effect { IfOk result IsEffect }
+{
+    let from = r.general[ESI];
+    let v = read(w, from, m)?;
+    let mut next = *r;
+    next.general[ESI] = next_of(w, from, r.flags);
+    Ok(settled(with_part(w, ACCUMULATOR, v, next), r.flags))
+}
+
+/// SCAS
+#[tactic(auto, unfolding(crate::specs::Strings::scanned))]
+fn scanned(w: Width, r: &Regs, m: &Memory) -> Result<Effect, Stop>
+    ensures value { result ≡ scanned w (machine r.now m.now) }
+    ensures effect { IfOk result IsEffect }
+{
+    let at = r.general[EDI];
+    let a = part(w, ACCUMULATOR, r);
+    let b = read(w, at, m)?;
+    let mut next = *r;
+    next.general[EDI] = next_of(w, at, r.flags);
+    Ok(settled(next, binary(BinaryOp::Sub, w, a, b, r.flags).flags))
+}
+
+/// CMPS
+#[tactic(auto, unfolding(crate::specs::Strings::compared_strings))]
+fn compared_strings(w: Width, r: &Regs, m: &Memory) -> Result<Effect, Stop>
+    ensures value { result ≡ compared_strings w (machine r.now m.now) }
+    ensures effect { IfOk result IsEffect }
+{
+    let from = r.general[ESI];
+    let to = r.general[EDI];
+    let a = read(w, from, m)?;
+    let b = read(w, to, m)?;
+    let mut next = *r;
+    next.general[ESI] = next_of(w, from, r.flags);
+    next.general[EDI] = next_of(w, to, r.flags);
+    Ok(settled(next, binary(BinaryOp::Sub, w, a, b, r.flags).flags))
+}
+
+/// One iteration.
+#[tactic(auto, unfolding(crate::specs::Strings::once))]
+fn once(op: StringOp, w: Width, r: &Regs, m: &Memory) -> Result<Effect, Stop>
+    ensures value { result ≡ once op w (machine r.now m.now) }
+    ensures effect { IfOk result IsEffect }
+{
+    match op {
+        StringOp::Cmps => compared_strings(w, r, m),
+        StringOp::Lods => taken(w, r, m),
+        StringOp::Movs => copied(w, r, m),
+        StringOp::Scas => scanned(w, r, m),
+        StringOp::Stos => filled(w, r),
+    }
+}
+
+fn while_equal(repeat: Repeat, zero: bool) -> bool
+    ensures { result ≡ while_equal repeat zero }
+{
+    match repeat {
+        Repeat::F2 => !zero,
+        Repeat::F3 | Repeat::Absent => zero,
+    }
+}
+
+/// Whether the repeat goes on behind an iteration, as far as the flags say.
+#[tactic(auto, unfolding(crate::specs::Strings::goes_on))]
+fn goes_on(op: StringOp, repeat: Repeat, zero: bool) -> bool
+    ensures { result ≡ goes_on op repeat zero }
+{
+    match op {
+        StringOp::Cmps | StringOp::Scas => while_equal(repeat, zero),
+        StringOp::Lods | StringOp::Movs | StringOp::Stos => true,
+    }
+}
+
+/// One iteration less is left. EIP stays at the instruction before the last.
+#[tactic(auto, unfolding(crate::specs::Strings::counted_down))]
+fn counted_down(start: u32, more: bool, e: Effect) -> Effect
+    requires { IsEffect e }
+    ensures value { result ≡ counted_down start more e }
+    ensures effect { IsEffect result }
+{
+    let mut e = e;
+    let left = e.registers.general[ECX].wrapping_sub(1);
+    e.registers.general[ECX] = left;
+    if left != 0 && more {
+        e.registers.eip = start;
+    }
+    e
+}
+
+/// MOVS, STOS, LODS, SCAS, CMPS, where the instruction begins at start.
+#[tactic(auto, unfolding(crate::specs::Strings::string_done))]
+pub fn string_done(
+    op: StringOp,
+    i: Instr,
+    w: Width,
+    start: u32,
+    r: &Regs,
+    m: &Memory,
+) -> Result<Effect, Stop>
+    ensures value { result ≡ string_done op i w start (machine r.now m.now) }
+    ensures effect { IfOk result IsEffect }
+{
+    match i.repeat {
+        Repeat::Absent => once(op, w, r, m),
+        Repeat::F2 | Repeat::F3 => {
+            if r.general[ECX] == 0 {
+                return Ok(settled(*r, r.flags));
+            }
+            let e = once(op, w, r, m)?;
+            let more = goes_on(op, i.repeat, e.registers.flags.zero);
+            Ok(counted_down(start, more, e))
+        }
+    }
+}

@@ -1,6 +1,0 @@
-use Rattle.std.proofs.Common.{◌≡◌, take}
-use Rattle.inf_file.specs.Characters.{units}
-use Rattle.inf_file.proofs.characters.units.Given as goal
-
-abbrev pub invariant-loop-i : goal.invariant-loop-i
-invariant-loop-i l = l.found.items ≡ take l.i (units l.bytes)

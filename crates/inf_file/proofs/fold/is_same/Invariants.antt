@@ -1,6 +1,0 @@
-use Rattle.std.proofs.Common.{◌≡◌, ℕ, ◌<◌, get_or}
-use Rattle.inf_file.specs.Sections.{without_case}
-use Rattle.inf_file.proofs.fold.is_same.Given as goal
-
-abbrev pub invariant-loop-i : goal.invariant-loop-i
-invariant-loop-i l = (k : ℕ) → k < l.i → without_case (get_or l.a k 0) ≡ without_case (get_or l.b k 0)

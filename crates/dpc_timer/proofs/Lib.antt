@@ -1,0 +1,4 @@
+pub mod Armed
+pub mod InOrder
+pub mod KeptMap
+pub mod Queue

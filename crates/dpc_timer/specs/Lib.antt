@@ -1,0 +1,3 @@
+pub mod ClockState
+pub mod Laws
+pub mod Turns

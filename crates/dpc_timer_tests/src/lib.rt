@@ -1,0 +1,5 @@
+//! Tests of dpc_timer.
+#![tactic(auto)]
+
+#[cfg(test)]
+mod tests;

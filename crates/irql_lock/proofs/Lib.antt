@@ -1,0 +1,4 @@
+pub mod Kept
+pub mod LockTable
+pub mod Looked
+pub mod Sound

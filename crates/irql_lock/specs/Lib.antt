@@ -1,0 +1,4 @@
+pub mod Laws
+pub mod LockMoves
+pub mod LockState
+pub mod LockTable

@@ -1,0 +1,5 @@
+//! Tests of irql_lock.
+#![tactic(auto)]
+
+#[cfg(test)]
+mod tests;

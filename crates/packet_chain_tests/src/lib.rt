@@ -1,0 +1,5 @@
+//! Tests of packet_chain.
+#![tactic(auto)]
+
+#[cfg(test)]
+mod tests;

@@ -1,0 +1,10 @@
+pub mod AddressFilter
+pub mod Bits
+pub mod Card
+pub mod Laws
+pub mod Memory
+pub mod RegisterMap
+pub mod Registers
+pub mod RemoteDma
+pub mod Ring
+pub mod Transmit

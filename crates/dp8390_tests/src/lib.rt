@@ -1,0 +1,5 @@
+//! Tests of dp8390.
+#![tactic(auto)]
+
+#[cfg(test)]
+mod tests;

@@ -1,6 +1,7 @@
 /* Runs one instruction a record on this machine's processor, as a 32-bit program without a C library.
  * Standard input: records of 64 bytes: the code's length, 11 bytes of code, EAX ECX EDX EBX EBP ESI EDI, EFLAGS, 16 bytes of memory at
- * DATA + 0x100, ESP. Standard output: 60 bytes each: whether it faulted, the seven registers, EFLAGS, the 16 bytes, ESP, and whether it
+ * DATA + 0x100, ESP. Where the first byte is 0, it is a program: bytes 2 and 3 are its length, and its code is in 2048 bytes behind the
+ * record. Standard output: 60 bytes each: whether it faulted, the seven registers, EFLAGS, the 16 bytes, ESP, and whether it
  * went to CODE + 0x80 in place of the next instruction. */
 typedef unsigned int word;
 typedef unsigned char byte;
@@ -30,10 +31,12 @@ static struct { void *handler; word flags; void *restorer; word mask[2]; } actio
 static struct { void *base; int flags; word size; } stack;
 static byte record[64], answer[60], room[65536];
 
-static int read_record(void) {
+static byte program[2048];
+
+static int read_all(byte *at, int size) {
     int count = 0;
-    while (count < 64) {
-        int n = call_system(3, 0, (int)(record + count), 64 - count, 0);
+    while (count < size) {
+        int n = call_system(3, 0, (int)(at + count), size - count, 0);
         if (n <= 0) return 0;
         count += n;
     }
@@ -54,11 +57,17 @@ void _start(void) {
     action.flags = 0x48000000;
     call_system(174, 8, (int)&action, 0, 8);
     byte *d = (byte *)DATA, *c = (byte *)CODE;
-    c[0x80] = 0xC7; c[0x81] = 0x05; *(word *)(c + 0x82) = (word)&taken; *(word *)(c + 0x86) = 1;
-    put_return(c + 0x8A);
-    while (read_record()) {
+    while (read_all(record, 64)) {
         int n = record[0];
-        for (int i = 0; i < n; i++) c[i] = record[1 + i];
+        c[0x80] = 0xC7; c[0x81] = 0x05; *(word *)(c + 0x82) = (word)&taken; *(word *)(c + 0x86) = 1;
+        put_return(c + 0x8A);
+        byte *from = record + 1;
+        if (n == 0) {
+            n = record[2] + 256 * record[3];
+            from = program;
+            if (!read_all(program, sizeof program)) break;
+        }
+        for (int i = 0; i < n; i++) c[i] = from[i];
         put_return(c + n);
         for (int i = 0; i < 7; i++) before[i] = *(word *)(record + 12 + 4 * i);
         before_flags = *(word *)(record + 40);

@@ -1,0 +1,4 @@
+pub mod LawLemmas
+pub mod RangeLemmas
+pub mod RangeLists
+pub mod TournamentLemmas

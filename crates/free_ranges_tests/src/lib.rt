@@ -1,0 +1,5 @@
+//! Tests of free_ranges.
+#![tactic(auto)]
+
+#[cfg(test)]
+mod tests;

@@ -1,4 +1,3 @@
 pub mod Armed
 pub mod InOrder
-pub mod KeptMap
 pub mod Queue

@@ -10,7 +10,7 @@ use Rattle.dpc_timer.specs.declared.timer.Timer.{Timer}
 use Rattle.dpc_timer.specs.declared.timer.Turn.{Turn}
 use Rattle.dpc_timer.specs.ClockState.{Timers, IsArmedFor}
 use Rattle.dpc_timer.specs.Turns.{has_turn, is_for, AreTurnsOf, timers_in}
-use Rattle.dpc_timer.proofs.KeptMap.{get-kept}
+use Rattle.nd_base.specs.KeptMap.{get-kept}
 
 pub weaker : {A : Type 0} (r : Option A) (P Q : A → Type 0) → ((x : A) → P x → Q x) → IfSome r P → IfSome r Q
 weaker None P Q f h = tt

@@ -1,4 +1,3 @@
 pub mod Kept
-pub mod LockTable
 pub mod Looked
 pub mod Sound

@@ -1,6 +1,5 @@
 -- One call on files or a sink after another: what two calls leave together.
-use Rattle.std.proofs.Common.{◌≡◌, ℕ, ◌≤◌, ◌≢◌, List, [], Bool, true, false, cond, Option, Some, IsTrue, refl, sym, ◌∙◌, ap, subst, inl, inr, arith, ◌++◌, ◌+◌, take, drop, append_assoc}
-use Rattle.std.proofs.Math.Seq.{take-add}
+use Rattle.std.proofs.Common.{◌≡◌, ℕ, ◌≤◌, ◌≢◌, List, [], Bool, true, false, cond, Option, Some, IsTrue, refl, sym, ◌∙◌, ap, subst, inl, inr, arith}
 use Rattle.std.specs.Option.{unwrap_or}
 use Rattle.std.specs.Str.{bytes_eq}
 use Rattle.std.specs.Ordering.{nat_cmp, eq_by_cmp, is_eq}
@@ -89,12 +88,3 @@ insert-insert files name first last =
     ∙ ap (cond (eq_by_cmp (slice_cmp nat_cmp) asked name) (Some last)) (get-insert nat_list_cmp_total files name first asked)
     ∙ again (eq_by_cmp (slice_cmp nat_cmp) asked name) (Some last) (Some first) (get files asked)
     ∙ sym (get-insert nat_list_cmp_total files name last asked))
-
--- a loop that writes a piece, after one more write: rest is what was left of the piece
-pub told_more : (told : Option (List ℕ)) (front piece rest : List ℕ) (done n : ℕ) → rest ≡ drop done piece → told ≡ Some ((front ++ take done piece) ++ take n rest) → told ≡ Some (front ++ take (done + n) piece)
-told_more told front piece rest done n left e =
-    e ∙ ap Some (append_assoc front (take done piece) (take n rest)
-    ∙ ap (λ xs. front ++ (take done piece ++ take n xs)) left
-    ∙ ap (λ xs. front ++ xs) (sym (take-add done n piece)))
-
-pub ruleset calls = (OnlyReads-trans, OnlyWrites-trans, readable-reads, writable-reads, readable-writes, writable-writes, told-reads, Rose-earlier, bytes_at-insert, bytes_at-insert_other, insert-insert)

@@ -1,8 +1,8 @@
 mod Decimals
-pub mod FileCalls
+mod FileCalls
 mod FileTable
 mod FirstFrom
-pub mod Hex
+mod Hex
 mod LayoutFile
 mod LayoutFronts
 mod LayoutLine

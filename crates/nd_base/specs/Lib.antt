@@ -1,6 +1,7 @@
 pub mod FaultPlan
 pub mod FileTable
 pub mod Files
+pub mod KeptMap
 pub mod Layout
 pub mod LayoutFile
 pub mod LayoutReading

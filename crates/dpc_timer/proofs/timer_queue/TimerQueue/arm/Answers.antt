@@ -1,4 +1,4 @@
-use Rattle.dpc_timer.proofs.KeptMap.{kept-insert}
+use Rattle.nd_base.specs.KeptMap.{kept-insert}
 use Rattle.dpc_timer.proofs.timer_queue.TimerQueue.arm.Goals as goal
 
 pub returns-in-Ok-None-clause-ok : goal.returns-in-Ok-None-clause-ok

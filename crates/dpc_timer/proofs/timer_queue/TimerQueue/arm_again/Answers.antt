@@ -1,5 +1,5 @@
 use Rattle.std.proofs.Common.{sym}
-use Rattle.dpc_timer.proofs.KeptMap.{kept-insert}
+use Rattle.nd_base.specs.KeptMap.{kept-insert}
 use Rattle.dpc_timer.proofs.Queue.{not_absent}
 use Rattle.dpc_timer.proofs.timer_queue.TimerQueue.arm_again.Goals as goal
 

@@ -1,5 +1,5 @@
 use Rattle.std.proofs.Common.{sym, ap, ◌∙◌, is_some}
-use Rattle.dpc_timer.proofs.KeptMap.{kept-remove}
+use Rattle.nd_base.specs.KeptMap.{kept-remove}
 use Rattle.dpc_timer.proofs.Queue.{is_armed}
 use Rattle.dpc_timer.proofs.timer_queue.TimerQueue.disarm.Goals as goal
 

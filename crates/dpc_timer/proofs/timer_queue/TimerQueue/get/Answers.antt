@@ -1,4 +1,4 @@
-use Rattle.dpc_timer.proofs.KeptMap.{get-kept}
+use Rattle.nd_base.specs.KeptMap.{get-kept}
 use Rattle.dpc_timer.proofs.timer_queue.TimerQueue.get.Goals as goal
 
 pub returns : goal.returns

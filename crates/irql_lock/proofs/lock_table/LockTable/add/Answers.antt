@@ -1,5 +1,5 @@
 use Rattle.std.proofs.Common.{None}
-use Rattle.irql_lock.proofs.LockTable.{kept-insert}
+use Rattle.nd_base.specs.KeptMap.{kept-insert}
 use Rattle.irql_lock.proofs.lock_table.LockTable.add.Goals as goal
 use Rattle.irql_lock.proofs.lock_table.LockTable.add.Goals.{in-Ok, in-Err}
 

@@ -1,4 +1,4 @@
-use Rattle.irql_lock.proofs.LockTable.{get-kept}
+use Rattle.nd_base.specs.KeptMap.{get-kept}
 use Rattle.irql_lock.proofs.lock_table.LockTable.get.Goals as goal
 
 pub returns : goal.returns

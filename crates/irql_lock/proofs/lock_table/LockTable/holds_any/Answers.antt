@@ -1,4 +1,4 @@
-use Rattle.irql_lock.proofs.LockTable.{entries-kept}
+use Rattle.nd_base.specs.KeptMap.{entries-kept}
 use Rattle.irql_lock.proofs.lock_table.LockTable.holds_any.Goals as goal
 
 pub returns : goal.returns

@@ -1,5 +1,5 @@
 use Rattle.std.proofs.Common.{refl}
-use Rattle.irql_lock.proofs.LockTable.{entries-kept}
+use Rattle.nd_base.specs.KeptMap.{entries-kept}
 use Rattle.irql_lock.proofs.lock_table.LockTable.let_go_all.Goals as goal
 
 pub returns : goal.returns

@@ -1,7 +1,7 @@
 use Rattle.std.proofs.Common.{◌≡◌, None, ap, sym, subst, ◌∙◌, IsSome}
 use Rattle.std.proofs.lemmas.Bool.{false≢true}
 use Rattle.std.specs.FinMap.{get}
-use Rattle.irql_lock.proofs.LockTable.{get-kept, kept-insert}
+use Rattle.nd_base.specs.KeptMap.{get-kept, kept-insert}
 use Rattle.irql_lock.specs.LockState.{Locks}
 use Rattle.irql_lock.proofs.lock_table.LockTable.put.Goals as goal
 

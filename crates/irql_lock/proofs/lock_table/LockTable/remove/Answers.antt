@@ -1,4 +1,4 @@
-use Rattle.irql_lock.proofs.LockTable.{kept-remove}
+use Rattle.nd_base.specs.KeptMap.{kept-remove}
 use Rattle.irql_lock.proofs.lock_table.LockTable.remove.Goals as goal
 
 pub returns : goal.returns

@@ -1,4 +1,4 @@
--- The locks that a map keeps, after each change of the map.
+-- The finite map that a map of std by numbers (`BTreeMap`) keeps: its look-up, its entries in order, and what each change of it makes of them.
 use Rattle.std.proofs.Common.{◌≡◌, ℕ, cond, List, [], ◌∷◌, length, None, Some, refl, sym, ap, ◌∙◌, arith}
 use Rattle.std.specs.BTreeMap as tree
 use Rattle.std.specs.BTreeMap.{BTreeMap, Updates}

@@ -4,16 +4,18 @@
 
 ghost use Rattle.std.specs.Prelude.{◌≡◌, ℕ, ◌+◌, ◌-◌, ◌≤◌, ◌<◌, ◌++◌, length, take, drop, IfOk, IfErr, OnOk, OnErr, ◌^◌, min, Ok, Err, Some, None, ◌≢◌};
 ghost use Rattle.std.specs.FinMap as map;
+ghost use Rattle.nd_mem.specs.Regions.{access_of};
 ghost use Rattle.nd_mem.specs.Space.{IsLow, first_fault, answer_of, bytes_from, put_from, zeros_from, executable_run, region_refusal, fault_at, Any, Reading, Writing, Executing};
 
 use nd_base::Addr;
-use regions::{Purpose, Region};
+use regions::Region;
 use std::alloc::Global;
 use std::marker::Model;
 
 mod regions;
 mod space_laws;
 
+pub use regions::Purpose;
 pub use space_laws::{fault_laws, fetch_laws, look_up_laws, read_laws, region_laws, write_laws};
 
 /// The first address that no region may hold: from here on stand addresses that are served in
@@ -134,6 +136,14 @@ impl Memory {
             return Err(RegionRefusal::OutOfMemory);
         }
         Ok(())
+    }
+
+    /// The fault at the first of `len` bytes from `at` on that is not mapped or lacks the right that
+    /// the purpose asks for, if there is one.
+    pub fn fault(&self, purpose: Purpose, at: Addr, len: u32) -> Option<MemFault>
+        ensures { result ≡ first_fault (access_of purpose) (map.get self.now) at.0 len }
+    {
+        regions::fault_of_runs(&self.regions, purpose, at, len)
     }
 
     /// Reads the bytes from `at` on into `out`. Addresses go on from 0xFFFFFFFF at 0.

@@ -11,7 +11,7 @@ use crate::{MemFault, Rights};
 use nd_base::Addr;
 use std::alloc::{AllocError, Global};
 
-/// What an access wants to do with each byte.
+/// What an access wants to do with each byte. To place a byte asks for no right.
 #[derive(Clone, Copy)]
 pub enum Purpose {
     Place,
@@ -163,6 +163,23 @@ pub fn read_runs(regions: &[Region], at: Addr, out: &mut [u8]) -> Result<(), Mem
     read_runs(regions, Addr(at.0 + count as u32), rest)?;
     here.copy_from_slice(&run[..count]);
     Ok(())
+}
+
+/// The fault at the first of the bytes from an address on that the access may not have.
+pub fn fault_of_runs(regions: &[Region], purpose: Purpose, at: Addr, len: u32) -> Option<MemFault>
+    requires { AreLaidOut regions.now }
+    ensures { result ≡ first_fault (access_of purpose) (cells_of regions.now) at.0 len }
+{
+    if len == 0 {
+        return None;
+    }
+    match run_from(regions, purpose, at) {
+        Ok(run) => {
+            let count = run.len().min(len as usize) as u32;
+            fault_of_runs(regions, purpose, Addr(at.0 + count), len - count)
+        }
+        Err(fault) => Some(fault),
+    }
 }
 
 /// Reads a run that is found already, and what can be executed of the bytes behind it. Answers

@@ -1,7 +1,7 @@
 ghost use Rattle.std.specs.Prelude.{◌≤◌};
 
 use nd_base::Addr;
-use nd_mem::{MemFault, Memory, RegionRefusal, Rights};
+use nd_mem::{MemFault, Memory, Purpose, RegionRefusal, Rights};
 use std::alloc::Global;
 
 const ALL: Rights = Rights {
@@ -143,6 +143,22 @@ fn a_fetch_goes_up_to_what_cannot_be_executed(rt: HostRuntime) {
 }
 
 #[test]
+fn a_fault_is_found_without_an_access(rt: HostRuntime) {
+    let mut memory = Memory::new(rt.alloc());
+    let found = adds(rt.alloc(), &mut memory, 0x1000, 4, ALL)
+        && adds(rt.alloc(), &mut memory, 0x1004, 4, READ_ONLY)
+        && memory.fault(Purpose::Read, Addr(0x1000), 8).is_none()
+        && memory.fault(Purpose::Place, Addr(0x1007), 1).is_none()
+        && memory.fault(Purpose::Write, Addr(0x1002), 0xFFFF_FFFF)
+            == Some(MemFault::NotWritable(Addr(0x1004)))
+        && memory.fault(Purpose::Execute, Addr(0x1000), 5)
+            == Some(MemFault::NotExecutable(Addr(0x1004)))
+        && memory.fault(Purpose::Read, Addr(0x1000), 9) == Some(MemFault::Unmapped(Addr(0x1008)))
+        && memory.fault(Purpose::Read, Addr(0x1008), 0).is_none();
+    assert!(rt; found);
+}
+
+#[test]
 fn regions_are_apart_and_low(rt: HostRuntime) {
     let mut memory = Memory::new(rt.alloc());
     let refused = adds(rt.alloc(), &mut memory, 0x1000, 16, ALL)
@@ -175,6 +191,8 @@ fn a_run_goes_over_4096_regions(rt: HostRuntime) {
     let mut memory = Memory::new(rt.alloc());
     let written = adds_in_a_row(rt.alloc(), &mut memory, 0x4000_0000, 4096)
         && writes(&mut memory, 0x4000_0000, &PIECE)
-        && holds_piece(&memory, 0x4000_0000);
+        && holds_piece(&memory, 0x4000_0000)
+        && memory.fault(Purpose::Write, Addr(0x4000_0000), 65_537)
+            == Some(MemFault::Unmapped(Addr(0x4001_0000)));
     assert!(rt; written);
 }

@@ -3,10 +3,12 @@
 ghost use Rattle.call_log.specs.Lines.{InRange};
 
 use call_log::{
-    Condition, Direction, Entry, Handler, Log, of_adapter, of_context, of_driver, read_log, text,
+    Condition, Direction, Entry, Handler, Holders, Log, of_adapter, of_context, of_driver,
+    read_log, text,
 };
-use nd_base::{AdapterNo, BindingNo, CtxNo, LoanNo};
+use nd_base::{AdapterNo, BindingNo, Bytes, CtxNo, LoanNo};
 use std::alloc::Global;
+use std::mem::size_of;
 use std::test::Fail;
 
 /// How many entries a large log has.
@@ -189,5 +191,13 @@ fn large_logs(rt: HostRuntime) -> Result<(), Fail> {
 fn text_of_an_entry(rt: HostRuntime) -> Result<(), Fail> {
     let line = text(rt.alloc(), &turn(64))?;
     assert!(rt; line.as_slice() == b"turn 1 64".as_slice());
+    Ok(())
+}
+
+/// An entry takes 72 bytes at most, of which 48 are the heads of the two lists of an `indicate`.
+#[test]
+fn size_of_an_entry(rt: HostRuntime) -> Result<(), Fail> {
+    assert!(rt; size_of::<Entry>() <= 72);
+    assert!(rt; size_of::<Bytes>() == 24 && size_of::<Holders>() == 24);
     Ok(())
 }

@@ -372,8 +372,8 @@ fn row_tail(prefixes: Prefixes, opcode: u8, row: Row, reg: u8, instruction: Inst
     let fields = fields_of(row.form.addressing, rm, reg)?;
     let immediate = immediate_number(row.form.immediate, prefixes.operand_size, instruction.imm)?;
     let modrm = fields.modrm.unwrap_or(0);
-    let own = built(prefixes, opcode, row, modrm, rm, instruction.imm);
-    if fits(prefixes, row, modrm) && is_same(own, instruction) {
+    let own = built(prefixes, opcode, &row, modrm, rm, instruction.imm);
+    if fits(prefixes, &row, modrm) && is_same(own, instruction) {
         Some(Tail { fields, immediate })
     } else {
         None

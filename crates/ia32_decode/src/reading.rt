@@ -49,12 +49,12 @@ fn operand_of(source: Source, opcode: u8, modrm: u8, rm: Operand) -> Operand
 pub fn built(
     prefixes: Prefixes,
     opcode: u8,
-    row: Row,
+    row: &Row,
     modrm: u8,
     rm: Operand,
     immediate: u32,
 ) -> Instr
-    ensures { result ≡ built prefixes opcode row modrm rm immediate }
+    ensures { result ≡ built prefixes opcode row.now modrm rm immediate }
 {
     Instr {
         op: row.op,
@@ -79,8 +79,8 @@ fn permits(permitted: Repeats, repeat: Repeat) -> bool
 
 /// May these prefixes stand before the row?
 #[tactic(auto, unfolding(crate::specs::Rows::allows))]
-pub fn allows(prefixes: Prefixes, row: Row) -> bool
-    ensures { result ≡ allows prefixes row }
+pub fn allows(prefixes: Prefixes, row: &Row) -> bool
+    ensures { result ≡ allows prefixes row.now }
 {
     (!prefixes.operand_size || row.permits.operand_size)
         && (!prefixes.lock || row.permits.lock)
@@ -89,66 +89,74 @@ pub fn allows(prefixes: Prefixes, row: Row) -> bool
 
 /// And before this ModRM byte?
 #[tactic(auto, unfolding(crate::specs::Rows::fits))]
-pub fn fits(prefixes: Prefixes, row: Row, modrm: u8) -> bool
-    ensures { result ≡ fits prefixes row modrm }
+pub fn fits(prefixes: Prefixes, row: &Row, modrm: u8) -> bool
+    ensures { result ≡ fits prefixes row.now modrm }
 {
     allows(prefixes, row)
         && (!prefixes.lock && !matches!(row.form.addressing, Addressing::Memory) || modrm < 0xC0)
 }
 
 #[tactic(auto, unfolding(crate::specs::Rows::ending))]
-fn ending(
+fn ending<'a>(
     prefixes: Prefixes,
     opcode: u8,
-    row: Row,
+    row: &Row,
     modrm: u8,
     rm: Operand,
-    bytes: &[u8],
-) -> Result<(Instr, &[u8]), Stop>
-    ensures { Gives (λ x. (x.0, x.1.now)) result ((ending prefixes opcode row modrm rm).read bytes.now) }
+    bytes: &'a [u8],
+) -> Result<(Instr, &'a [u8]), Stop>
+    ensures { Gives (λ x. (x.0, x.1.now)) result ((ending prefixes opcode row.now modrm rm).read bytes.now) }
 {
     let (number, rest) = immediate(row.form.immediate, prefixes.operand_size, bytes)?;
     Ok((built(prefixes, opcode, row, modrm, rm, number), rest))
 }
 
 /// A row from behind the ModRM byte on, if they fit.
-fn behind_modrm(
+fn behind_modrm<'a>(
     prefixes: Prefixes,
     opcode: u8,
-    row: Option<Row>,
+    row: &Row,
     modrm: u8,
-    bytes: &[u8],
-) -> Result<(Instr, &[u8]), Stop>
+    bytes: &'a [u8],
+) -> Result<(Instr, &'a [u8]), Stop>
     requires { length bytes.now < usize.MAX }
-    ensures { Gives (λ x. (x.0, x.1.now)) result (if may_fit prefixes row modrm then (after_modrm prefixes opcode modrm row).read bytes.now else Err (Outside (suc (length bytes.now)))) }
+    ensures { Gives (λ x. (x.0, x.1.now)) result (if fits prefixes row.now modrm then (after_modrm prefixes opcode modrm (Some row.now)).read bytes.now else Err (Outside (suc (length bytes.now)))) }
 {
-    match row {
-        Some(row) if fits(prefixes, row, modrm) => {
-            let (rm, rest) = place(modrm, bytes)?;
-            ending(prefixes, opcode, row, modrm, rm, rest)
-        }
-        _ => Err(Stop::Outside(bytes.len() + 1)),
+    if !fits(prefixes, row, modrm) {
+        return Err(Stop::Outside(bytes.len() + 1));
     }
+    let (rm, rest) = place(modrm, bytes)?;
+    ending(prefixes, opcode, row, modrm, rm, rest)
 }
 
 #[tactic(auto, unfolding(crate::specs::Rows::at_offset))]
-fn at_offset(prefixes: Prefixes, opcode: u8, row: Row, bytes: &[u8]) -> Result<(Instr, &[u8]), Stop>
-    ensures { Gives (λ x. (x.0, x.1.now)) result ((at_offset prefixes opcode row).read bytes.now) }
+fn at_offset<'a>(
+    prefixes: Prefixes,
+    opcode: u8,
+    row: &Row,
+    bytes: &'a [u8],
+) -> Result<(Instr, &'a [u8]), Stop>
+    ensures { Gives (λ x. (x.0, x.1.now)) result ((at_offset prefixes opcode row.now).read bytes.now) }
 {
     let (rm, rest) = offset_alone(bytes)?;
     ending(prefixes, opcode, row, 0, rm, rest)
 }
 
 #[tactic(auto, unfolding(crate::specs::Rows::by_modrm))]
-fn one(prefixes: Prefixes, opcode: u8, row: Row, bytes: &[u8]) -> Result<(Instr, &[u8]), Stop>
-    requires { allows prefixes row ≡ true }
-    ensures { Gives (λ x. (x.0, x.1.now)) result ((addressed prefixes opcode row row.form.addressing).read bytes.now) }
+fn one<'a>(
+    prefixes: Prefixes,
+    opcode: u8,
+    row: &Row,
+    bytes: &'a [u8],
+) -> Result<(Instr, &'a [u8]), Stop>
+    requires { allows prefixes row.now ≡ true }
+    ensures { Gives (λ x. (x.0, x.1.now)) result ((addressed prefixes opcode row.now row.now.form.addressing).read bytes.now) }
 {
     match row.form.addressing {
         Addressing::Absent => ending(prefixes, opcode, row, 0, Operand::Absent, bytes),
         Addressing::Offset => at_offset(prefixes, opcode, row, bytes),
         Addressing::Any | Addressing::Memory => match bytes.split_first() {
-            Some((modrm, rest)) => behind_modrm(prefixes, opcode, Some(row), *modrm, rest),
+            Some((modrm, rest)) => behind_modrm(prefixes, opcode, row, *modrm, rest),
             None => Err(Stop::More),
         },
     }
@@ -190,15 +198,17 @@ fn grouped(
 {
     match bytes.split_first() {
         Some((modrm, rest)) => {
-            let row = rows_of(group)[usize::from(*modrm / 8 % 8)];
-            behind_modrm(prefixes, opcode, row, *modrm, rest)
+            match &rows_of(group)[usize::from(*modrm / 8 % 8)] {
+                Some(row) => behind_modrm(prefixes, opcode, row, *modrm, rest),
+                None => Err(Stop::Outside(bytes.len())),
+            }
         }
         None => Err(Stop::More),
     }
 }
 
-fn may_allow(prefixes: Prefixes, row: Option<Row>) -> bool
-    ensures { result ≡ may_allow prefixes row }
+fn may_allow(prefixes: Prefixes, row: &Option<Row>) -> bool
+    ensures { result ≡ may_allow prefixes row.now }
 {
     match row {
         Some(row) => allows(prefixes, row),
@@ -209,50 +219,50 @@ fn may_allow(prefixes: Prefixes, row: Option<Row>) -> bool
 fn any_allow(prefixes: Prefixes, rows: &[Option<Row>]) -> bool
     ensures { result ≡ list_any (may_allow prefixes) rows.now }
 {
-    rows.iter().any(|row| may_allow(prefixes, *row))
+    rows.iter().any(|row| may_allow(prefixes, row))
 }
 
 /// May these prefixes stand before some row of the entry?
-fn opens(prefixes: Prefixes, entry: Entry) -> bool
-    ensures { result ≡ opens prefixes entry }
+fn opens(prefixes: Prefixes, entry: &Entry) -> bool
+    ensures { result ≡ opens prefixes entry.now }
 {
     match entry {
         Entry::Outside | Entry::Escape => false,
         Entry::One(row) => allows(prefixes, row),
-        Entry::Group(group) => any_allow(prefixes, rows_of(group)),
+        Entry::Group(group) => any_allow(prefixes, rows_of(*group)),
     }
 }
 
 /// What stands behind an opcode.
 #[tactic(auto, unfolding(crate::specs::Opcodes::behind_opcode))]
-fn behind_opcode(
+fn behind_opcode<'a>(
     prefixes: Prefixes,
     opcode: u8,
-    entry: Entry,
-    bytes: &[u8],
-) -> Result<(Instr, &[u8]), Stop>
-    requires { opens prefixes entry ≡ true }
-    ensures { Gives (λ x. (x.0, x.1.now)) result ((behind_opcode prefixes opcode entry).read bytes.now) }
+    entry: &Entry,
+    bytes: &'a [u8],
+) -> Result<(Instr, &'a [u8]), Stop>
+    requires { opens prefixes entry.now ≡ true }
+    ensures { Gives (λ x. (x.0, x.1.now)) result ((behind_opcode prefixes opcode entry.now).read bytes.now) }
 {
     match entry {
         Entry::Outside | Entry::Escape => Err(Stop::Outside(bytes.len())),
         Entry::One(row) => one(prefixes, opcode, row, bytes),
-        Entry::Group(group) => grouped(prefixes, opcode, group, bytes),
+        Entry::Group(group) => grouped(prefixes, opcode, *group, bytes),
     }
 }
 
 #[tactic(auto, unfolding(crate::specs::Opcodes::first_of))]
-pub fn first_of(opcode: u8) -> Entry
-    ensures { result ≡ first_of opcode }
+pub fn first_of(opcode: u8) -> &'static Entry
+    ensures { result.now ≡ first_of opcode }
 {
-    FIRST[usize::from(opcode)]
+    &FIRST[usize::from(opcode)]
 }
 
 #[tactic(auto, unfolding(crate::specs::Opcodes::second_of))]
-pub fn second_of(opcode: u8) -> Entry
-    ensures { result ≡ second_of opcode }
+pub fn second_of(opcode: u8) -> &'static Entry
+    ensures { result.now ≡ second_of opcode }
 {
-    SECOND[usize::from(opcode)]
+    &SECOND[usize::from(opcode)]
 }
 
 /// What stands behind 0F.

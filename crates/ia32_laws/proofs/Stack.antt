@@ -70,7 +70,7 @@ set_twice (a ∷ b ∷ c ∷ d ∷ e ∷ f ∷ g ∷ h ∷ x ∷ xs) v long = ab
 abbrev behind : Width → ℕ → Registers → Space → Machine
 behind w v r s = machine (with_general ESP (pushed_to w r) r) (put_from s (pushed_to w r) (bytes_of w v))
 
-committed_push : (w : Width) (v : ℕ) (r : Registers) (s : Space) (m : Machine) (f : Option MemFault) → first_fault Writing (map.get s) (pushed_to w r) (bytes w) ≡ f → committed (push w v r) s ≡ Ok m → m ≡ behind w v r s
+committed_push : (w : Width) (v : ℕ) (r : Registers) (s : Space) (m : Machine) (f : Option MemFault) → first_fault Writing (map.get s) (pushed_to w r) (bytes w) ≡ f → committed (push w v r) (machine r s) ≡ Ok m → m ≡ behind w v r s
 unfolding committed push
 committed_push w v r s m None e is =
     let now : Ok (behind w v r s) ≡ Ok m = sym (ap (λ (f : Option MemFault). and_then (unless f (put_from s (pushed_to w r) (bytes_of w v))) (λ t. Ok (machine (with_general ESP (pushed_to w r) r) t))) e) ∙ is in

@@ -6,7 +6,7 @@ use Rattle.ia32_arithmetic.specs.declared.widths.Width.{Width}
 use Rattle.ia32_arithmetic.specs.Widths.{size, bytes}
 use Rattle.ia32_decode.specs.declared.instruction.Instr.{Instr}
 use Rattle.ia32_step.specs.Registers.{Registers, ESP, general_of}
-use Rattle.ia32_step.specs.State.{Machine}
+use Rattle.ia32_step.specs.State.{Machine, machine}
 use Rattle.ia32_step.specs.Operands.{committed}
 use Rattle.ia32_step.specs.Stack.{push, popped}
 use Rattle.ia32_step.specs.Moves.{into_first}
@@ -22,4 +22,4 @@ pushed_to w r = (general_of r ESP + 2 ^ 32 - bytes w) % 2 ^ 32
 
 pub record StackLaws : Type 0 where
   -- A number that is pushed and then popped into an operand is as if it was moved there: ESP and all else is what it was before the push.
-  pub popped : (w : Width) (v : ℕ) (i : Instr) (r : Registers) (s : Space) (m : Machine) → v < size w → AreRegisters r → first_fault Reading (map.get s) (pushed_to w r) (bytes w) ≡ None → committed (push w v r) s ≡ Ok m → popped i w m ≡ Ok (into_first i w v r)
+  pub popped : (w : Width) (v : ℕ) (i : Instr) (r : Registers) (s : Space) (m : Machine) → v < size w → AreRegisters r → first_fault Reading (map.get s) (pushed_to w r) (bytes w) ≡ None → committed (push w v r) (machine r s) ≡ Ok m → popped i w m ≡ Ok (into_first i w v r)

@@ -10,9 +10,8 @@ use Rattle.ia32_arithmetic.specs.Sums.{binary, unary}
 use Rattle.ia32_arithmetic.specs.Shifts.{shift, double_shift}
 use Rattle.ia32_decode.specs.declared.instruction.Instr.{Instr}
 use Rattle.ia32_step.specs.declared.effects.Stop.{Stop}
-use Rattle.ia32_step.specs.declared.effects.Effect.{Effect}
 use Rattle.ia32_step.specs.Registers.{Registers}
-use Rattle.ia32_step.specs.State.{Machine}
+use Rattle.ia32_step.specs.State.{Machine, Effect}
 use Rattle.ia32_step.specs.Operands.{with_first, with_both, stored, settled}
 
 -- the first operand becomes the value

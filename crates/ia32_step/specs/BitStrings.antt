@@ -9,9 +9,8 @@ use Rattle.ia32_decode.specs.declared.instruction.Instr.{Instr}
 use Rattle.ia32_decode.specs.declared.instruction.Operand.{Operand}
 use Rattle.ia32_decode.specs.declared.instruction.Operand.TheVariants.{Reg, Place}
 use Rattle.ia32_step.specs.declared.effects.Stop.{Stop}
-use Rattle.ia32_step.specs.declared.effects.Effect.{Effect}
 use Rattle.ia32_step.specs.Registers.{Registers}
-use Rattle.ia32_step.specs.State.{Machine}
+use Rattle.ia32_step.specs.State.{Machine, Effect}
 use Rattle.ia32_step.specs.Operands.{and_then, load, with_second, stored, settled}
 
 -- From the operand's address to that of the number with the bit, in bytes: the signed offset, divided by the width and rounded down, times the

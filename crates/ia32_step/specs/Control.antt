@@ -5,9 +5,8 @@ use Rattle.ia32_decode.specs.declared.instruction.Instr.{Instr}
 use Rattle.ia32_decode.specs.declared.instruction.Operand.{Operand}
 use Rattle.ia32_decode.specs.declared.instruction.Operand.TheVariants.{Imm}
 use Rattle.ia32_step.specs.declared.effects.Stop.{Stop}
-use Rattle.ia32_step.specs.declared.effects.Effect.{Effect}
 use Rattle.ia32_step.specs.Registers.{Registers, ECX, ESP, EBP, general_of, with_general}
-use Rattle.ia32_step.specs.State.{Machine}
+use Rattle.ia32_step.specs.State.{Machine, Effect}
 use Rattle.ia32_step.specs.Operands.{and_then, read, load, settled}
 use Rattle.ia32_step.specs.Stack.{push}
 

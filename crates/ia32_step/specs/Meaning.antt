@@ -11,11 +11,10 @@ use Rattle.ia32_decode.specs.declared.instruction.Instr.{Instr}
 use Rattle.ia32_decode.specs.declared.instruction.Op.{Op}
 use Rattle.ia32_decode.specs.declared.instruction.Op.TheVariants as op
 use Rattle.ia32_step.specs.declared.effects.Stop.{Stop}
-use Rattle.ia32_step.specs.declared.effects.Effect.{Effect}
 use Rattle.ia32_step.specs.declared.strings.StringOp.TheVariants as string
 pub use Rattle.ia32_step.specs.Registers.{ESP, general_of, with_general}
 use Rattle.ia32_step.specs.Registers.{ECX}
-use Rattle.ia32_step.specs.State.{Machine, machine}
+use Rattle.ia32_step.specs.State.{Machine, machine, Effect}
 use Rattle.ia32_step.specs.Operands.{and_then, settled, committed}
 use Rattle.ia32_step.specs.Conditions.{holds}
 use Rattle.ia32_step.specs.Arithmetic.{changed, compared, altered, shifted, double_shifted}
@@ -115,5 +114,4 @@ effect_of i start m = by_op i.op i (width_of i.width) start m
 
 -- The instruction, which so many bytes spell, is done with EIP at the next one; its write comes last.
 unfoldable pub meaning : Instr → ℕ → Machine → Result Machine Stop
-meaning i n m =
-    and_then (effect_of i m.registers.eip (machine (advanced n m.registers) m.memory)) (λ e. committed e m.memory)
+meaning i n m = and_then (effect_of i m.registers.eip (machine (advanced n m.registers) m.memory)) (λ e. committed e m)

@@ -7,13 +7,10 @@ use Rattle.ia32_arithmetic.specs.Widths.{size, is_negative, sign_extended}
 use Rattle.ia32_arithmetic.specs.Sums.{binary}
 use Rattle.ia32_arithmetic.specs.Bits.{swapped}
 use Rattle.ia32_decode.specs.declared.instruction.Instr.{Instr}
-use Rattle.ia32_decode.specs.declared.instruction.Operand.{Operand}
-use Rattle.ia32_decode.specs.declared.instruction.Operand.TheVariants.{Place}
 use Rattle.ia32_step.specs.declared.effects.Stop.{Stop}
-use Rattle.ia32_step.specs.declared.effects.Effect.{Effect}
 use Rattle.ia32_step.specs.Registers.{Registers, part, with_part}
-use Rattle.ia32_step.specs.State.{Machine}
-use Rattle.ia32_step.specs.Operands.{address_of, with_first, with_second, with_both, stored, settled}
+use Rattle.ia32_step.specs.State.{Machine, Effect}
+use Rattle.ia32_step.specs.Operands.{address_in, with_first, with_second, with_both, stored, settled, unwritten}
 
 -- the first operand becomes the number, and the flags stay
 abbrev pub into_first : Instr → Width → ℕ → Registers → Effect
@@ -46,10 +43,6 @@ exchanged_if i w r a b =
 unfoldable pub compared_exchanged : Instr → Width → Machine → Result Effect Stop
 compared_exchanged i w m = with_both i w m (λ a b. Ok (exchanged_if i w m.registers a b))
 
-abbrev pub address_in : Operand → Registers → ℕ
-address_in (Place base index scale offset) r = address_of base index scale offset r
-address_in _ r = 0
-
 -- LEA: nothing is read
 unfoldable pub loaded_address : Instr → Width → Registers → Result Effect Stop
 loaded_address i w r = Ok (into_first i w (address_in i.second r % size w) r)
@@ -69,11 +62,11 @@ narrower Doubleword = Word
 
 -- CBW, CWDE
 unfoldable pub converted : Width → Registers → Result Effect Stop
-converted w r = Ok (settled (with_part w 0 (sign_extended (narrower w) w (part (narrower w) 0 r)) r) r.flags)
+converted w r = Ok (unwritten (with_part w 0 (sign_extended (narrower w) w (part (narrower w) 0 r)) r))
 
 -- CWD, CDQ: DX or EDX becomes the sign of AX or EAX
 unfoldable pub converted_double : Width → Registers → Result Effect Stop
-converted_double w r = Ok (settled (with_part w 2 (if is_negative w (part w 0 r) then (size w - 1) else 0) r) r.flags)
+converted_double w r = Ok (unwritten (with_part w 2 (if is_negative w (part w 0 r) then (size w - 1) else 0) r))
 
 -- CMOVcc: the second operand is always read
 unfoldable pub moved_if : Bool → Instr → Width → Machine → Result Effect Stop

@@ -1,5 +1,5 @@
 -- Operands, and what an instruction leaves: Intel SDM volume 1, "Operand Addressing".
-use Rattle.std.specs.Prelude.{ℕ, ◌+◌, ◌*◌, ◌%◌, ◌^◌, ◌<◌, List, ◌++◌, Option, None, Some, Result, Ok, Err, slice_index}
+use Rattle.std.specs.Prelude.{ℕ, ◌≡◌, ◌+◌, ◌*◌, ◌%◌, ◌^◌, ◌<◌, List, ◌++◌, Option, None, Some, Result, Ok, Err}
 use Rattle.std.specs.FinMap as map
 use Rattle.std.specs.Int.{w8, w16, w32, from_le_bytes, to_le_bytes}
 use Rattle.nd_mem.specs.declared.MemFault.{MemFault}
@@ -15,9 +15,8 @@ use Rattle.ia32_step.specs.declared.effects.Stop.{Stop}
 use Rattle.ia32_step.specs.declared.effects.Stop.TheVariants.{Memory}
 use Rattle.ia32_step.specs.declared.effects.Write.{Write}
 use Rattle.ia32_step.specs.declared.effects.Write.TheVariants as write
-use Rattle.ia32_step.specs.declared.effects.Effect.{Effect}
 use Rattle.ia32_step.specs.Registers.{Registers, general_of, part, with_part}
-use Rattle.ia32_step.specs.State.{Machine, machine}
+use Rattle.ia32_step.specs.State.{Machine, machine, Effect, left}
 
 -- an instruction stops at its first step that has no result
 abbrev pub and_then : {A B : Type 0} → Result A Stop → (A → Result B Stop) → Result B Stop
@@ -75,42 +74,60 @@ with_both i w m f = and_then (load w i.first i.imm m) (λ a. and_then (load w i.
 abbrev pub settled : Registers → Flags → Effect
 settled r f = record { registers = record r { flags = f }; write = write.Absent }
 
--- a register changes, or memory is to be written, at the address that these registers give
-unfoldable pub stored : Width → Operand → ℕ → Registers → Effect → Effect
-stored w (Reg n) v r e = record e { registers = with_part w n v e.registers }
-stored w (Place base index scale offset) v r e = record e { write = write.Number w (address_of base index scale offset r) v }
-stored w Imm v r e = e
-stored w Absent v r e = e
+-- the address in an operand
+unfoldable pub address_in : Operand → Registers → ℕ
+address_in (Place base index scale offset) r = address_of base index scale offset r
+address_in Imm r = 0
+address_in Absent r = 0
+address_in (Reg n) r = 0
 
+-- these registers, and no write
+abbrev pub unwritten : Registers → Effect
+unwritten r = left r write.Absent
+
+-- a register changes, or memory is to be written, at this address
+unfoldable pub stored_at : Width → Operand → ℕ → ℕ → Effect → Effect
+stored_at w (Reg n) a v e = record e { registers = with_part w n v e.registers }
+stored_at w (Place base index scale offset) a v e = record e { write = write.Number w a v }
+stored_at w Imm a v e = e
+stored_at w Absent a v e = e
+
+-- at the address that these registers give
+abbrev pub stored : Width → Operand → ℕ → Registers → Effect → Effect
+stored w o v r e = stored_at w o (address_in o r) v e
+
+-- what is to be written is a number of its width
 abbrev pub IsWrite : Write → Type 0
 IsWrite write.Absent = Unit {0}
 IsWrite (write.Number w a v) = v < size w
-IsWrite (write.Eight a ns) = Unit {0}
+IsWrite (write.Registers a) = Unit {0}
 
--- what is to be written is a number of its width
-abbrev pub IsEffect : Effect → Type 0
-IsEffect e = IsWrite e.write
+-- An instruction in place: the registers become the effect's, and its write is still to be made; without a result nothing is said of them.
+abbrev pub Leaves : Result Write Stop → Registers → Result Effect Stop → Type 0
+Leaves (Ok w) r e = (e ≡ Ok (left r w)) × IsWrite w
+Leaves (Err s) r e = e ≡ Err s
 
--- eight numbers of four bytes, the first at the lowest address
-unfoldable pub bytes_of_eight : List ℕ → List ℕ
-bytes_of_eight ns =
-    let at = λ (k : ℕ). to_le_bytes w32 (slice_index ns k) in
-    at 0 ++ at 1 ++ at 2 ++ at 3 ++ at 4 ++ at 5 ++ at 6 ++ at 7
+-- the general registers, EDI at the lowest address, the lowest byte of each first
+unfoldable pub bytes_of_all : Registers → List ℕ
+bytes_of_all r =
+    let at = λ (k : ℕ). to_le_bytes w32 (general_of r k) in
+    at 7 ++ at 6 ++ at 5 ++ at 4 ++ at 3 ++ at 2 ++ at 1 ++ at 0
 
-abbrev pub written : Write → Space → Result Space Stop
-written write.Absent m = Ok m
-written (write.Number w a v) m = unless (first_fault Writing (map.get m) a (bytes w)) (put_from m a (bytes_of w v))
-written (write.Eight a ns) m = unless (first_fault Writing (map.get m) a 32) (put_from m a (bytes_of_eight ns))
+-- where these were the registers before the instruction
+abbrev pub written : Write → Registers → Space → Result Space Stop
+written write.Absent r m = Ok m
+written (write.Number w a v) r m = unless (first_fault Writing (map.get m) a (bytes w)) (put_from m a (bytes_of w v))
+written (write.Registers a) r m = unless (first_fault Writing (map.get m) a 32) (put_from m a (bytes_of_all r))
 
 -- the write is made, and then the registers are the effect's
-unfoldable pub committed : Effect → Space → Result Machine Stop
-committed e m = and_then (written e.write m) (λ s. Ok (machine e.registers s))
+unfoldable pub committed : Effect → Machine → Result Machine Stop
+committed e m = and_then (written e.write m.registers m.memory) (λ s. Ok (machine e.registers s))
 
-abbrev pub answer_to : Result Machine Stop → Result (Unit {0}) Stop
+abbrev pub answer_to : {A : Type 0} → Result A Stop → Result (Unit {0}) Stop
 answer_to (Ok _) = Ok tt
 answer_to (Err e) = Err e
 
 -- without a result the machine is as it was
-abbrev pub after : Result Machine Stop → Machine → Machine
+abbrev pub after : {A : Type 0} → Result A Stop → A → A
 after (Ok n) m = n
 after (Err _) m = m

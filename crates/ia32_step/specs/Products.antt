@@ -9,10 +9,9 @@ use Rattle.ia32_arithmetic.specs.Products as numbers
 use Rattle.ia32_decode.specs.declared.instruction.Instr.{Instr}
 use Rattle.ia32_step.specs.declared.effects.Stop.{Stop}
 use Rattle.ia32_step.specs.declared.effects.Stop.TheVariants.{DivideError}
-use Rattle.ia32_step.specs.declared.effects.Effect.{Effect}
 use Rattle.ia32_step.specs.Registers.{Registers, part, with_part}
-use Rattle.ia32_step.specs.State.{Machine}
-use Rattle.ia32_step.specs.Operands.{with_first, with_second, with_both, stored, settled}
+use Rattle.ia32_step.specs.State.{Machine, Effect}
+use Rattle.ia32_step.specs.Operands.{with_first, with_second, with_both, stored, settled, unwritten}
 
 -- AH, DX, EDX
 abbrev pub upper : Width → ℕ
@@ -50,7 +49,7 @@ multiplied_three i w m = with_second i w m (λ a. Ok (into_first i w (numbers.mu
 -- the quotient below and the remainder above; the flags are undefined
 abbrev pub quotient_in : Width → Option Quotient → Registers → Result Effect Stop
 quotient_in w None r = Err DivideError
-quotient_in w (Some q) r = Ok (settled (with_pair w q.remainder q.quotient r) r.flags)
+quotient_in w (Some q) r = Ok (unwritten (with_pair w q.remainder q.quotient r))
 
 abbrev pub pair_of : Width → Registers → ℕ
 pair_of w r = numbers.pair w (part w (upper w) r) (part w 0 r)

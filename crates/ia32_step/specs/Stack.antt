@@ -7,10 +7,9 @@ use Rattle.ia32_arithmetic.specs.Flags.{word_of, of_word}
 use Rattle.ia32_decode.specs.declared.instruction.Instr.{Instr}
 use Rattle.ia32_step.specs.declared.effects.Stop.{Stop}
 use Rattle.ia32_step.specs.declared.effects.Write.TheVariants as write
-use Rattle.ia32_step.specs.declared.effects.Effect.{Effect}
 use Rattle.ia32_step.specs.Registers.{Registers, ESP, general_of, with_general, part, with_part}
-use Rattle.ia32_step.specs.State.{Machine}
-use Rattle.ia32_step.specs.Operands.{and_then, read, with_first, stored, settled}
+use Rattle.ia32_step.specs.State.{Machine, Effect}
+use Rattle.ia32_step.specs.Operands.{and_then, read, with_first, stored, settled, unwritten}
 
 -- a number goes onto the stack
 unfoldable pub push : Width → ℕ → Registers → Effect
@@ -29,12 +28,11 @@ popped i w m =
     let next = with_general ESP ((top + bytes w) % 2 ^ 32) m.registers in
     and_then (read w top m.memory) (λ v. Ok (stored w i.first v next (settled next next.flags)))
 
--- PUSHAD: one write of 32 bytes
+-- PUSHAD: one write of the registers as they were
 unfoldable pub all_pushed : Registers → Result Effect Stop
 all_pushed r =
-    let at = λ (k : ℕ). general_of r k in
-    let top = (at ESP + 2 ^ 32 - 32) % 2 ^ 32 in
-    Ok (record { registers = with_general ESP top r; write = write.Eight top (at 7 ∷ at 6 ∷ at 5 ∷ at 4 ∷ at 3 ∷ at 2 ∷ at 1 ∷ at 0 ∷ []) })
+    let top = (general_of r ESP + 2 ^ 32 - 32) % 2 ^ 32 in
+    Ok (record { registers = with_general ESP top r; write = write.Registers top })
 
 abbrev pub read_at : Machine → ℕ → (ℕ → Result Effect Stop) → Result Effect Stop
 read_at m k f = and_then (read Doubleword ((general_of m.registers ESP + k) % 2 ^ 32) m.memory) f
@@ -58,7 +56,7 @@ flags_popped m =
 
 -- LAHF: AH (4) becomes the low byte of the flags
 unfoldable pub flags_loaded : Registers → Result Effect Stop
-flags_loaded r = Ok (settled (with_part Byte 4 (word_of r.flags % 2 ^ 8) r) r.flags)
+flags_loaded r = Ok (unwritten (with_part Byte 4 (word_of r.flags % 2 ^ 8) r))
 
 -- SAHF: DF and OF stay
 unfoldable pub flags_stored : Registers → Result Effect Stop

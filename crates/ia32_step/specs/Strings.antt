@@ -10,12 +10,11 @@ use Rattle.ia32_decode.specs.declared.instruction.Repeat.{Repeat}
 use Rattle.ia32_decode.specs.declared.instruction.Repeat.TheVariants.{Absent, F2, F3}
 use Rattle.ia32_step.specs.declared.effects.Stop.{Stop}
 use Rattle.ia32_step.specs.declared.effects.Write.TheVariants as write
-use Rattle.ia32_step.specs.declared.effects.Effect.{Effect}
 use Rattle.ia32_step.specs.declared.strings.StringOp.{StringOp}
 use Rattle.ia32_step.specs.declared.strings.StringOp.TheVariants.{Cmps, Lods, Movs, Scas, Stos}
 use Rattle.ia32_step.specs.Registers.{Registers, ECX, ESI, EDI, general_of, with_general, part, with_part}
-use Rattle.ia32_step.specs.State.{Machine}
-use Rattle.ia32_step.specs.Operands.{and_then, read, settled}
+use Rattle.ia32_step.specs.State.{Machine, Effect}
+use Rattle.ia32_step.specs.Operands.{and_then, read, settled, unwritten}
 
 -- DF: downwards
 unfoldable pub next_of : Width → ℕ → Flags → ℕ
@@ -42,7 +41,7 @@ filled w r = Ok (record { registers = destination_moved w r; write = write.Numbe
 unfoldable pub taken : Width → Machine → Result Effect Stop
 taken w m =
     let r = m.registers in
-    and_then (read w (general_of r ESI) m.memory) (λ v. Ok (settled (with_part w 0 v (source_moved w r)) r.flags))
+    and_then (read w (general_of r ESI) m.memory) (λ v. Ok (unwritten (with_part w 0 v (source_moved w r))))
 
 -- SCAS: the accumulator with what is at EDI
 unfoldable pub scanned : Width → Machine → Result Effect Stop
@@ -79,17 +78,17 @@ goes_on Movs repeat zero = true
 goes_on Stos repeat zero = true
 
 -- ECX goes down by one; but at the last iteration EIP goes back to the instruction
-unfoldable pub counted_down : ℕ → Bool → Effect → Effect
-counted_down start more e =
-    let left = (general_of e.registers ECX + 2 ^ 32 - 1) % 2 ^ 32 in
-    let r = with_general ECX left e.registers in
-    record e { registers = if not (left == 0) && more then (record r { eip = start }) else r }
+unfoldable pub counted_down : ℕ → Bool → Registers → Registers
+counted_down start more r =
+    let left = (general_of r ECX + 2 ^ 32 - 1) % 2 ^ 32 in
+    let next = with_general ECX left r in
+    if not (left == 0) && more then (record next { eip = start }) else next
 
 -- with ECX 0 nothing is done
 abbrev pub repeated : StringOp → Repeat → ℕ → Width → Machine → Result Effect Stop
 repeated op repeat start w m =
     if general_of m.registers ECX == 0 then Ok (settled m.registers m.registers.flags)
-    else and_then (once op w m) (λ e. Ok (counted_down start (goes_on op repeat e.registers.flags.zero) e))
+    else and_then (once op w m) (λ e. Ok (record e { registers = counted_down start (goes_on op repeat e.registers.flags.zero) e.registers }))
 
 abbrev pub by_repeat : Repeat → StringOp → ℕ → Width → Machine → Result Effect Stop
 by_repeat Absent op start w m = once op w m

@@ -1,13 +1,13 @@
 //! Arithmetic, logic and shifts of operands. (In this file and the next ones EIP of the registers
 //! is already that of the next instruction.)
 
-ghost use Rattle.std.specs.Prelude.{◌≡◌, ◌<◌, IfOk};
+ghost use Rattle.std.specs.Prelude.{◌≡◌, ◌<◌};
 ghost use Rattle.ia32_arithmetic.specs.Widths.{size};
-ghost use Rattle.ia32_step.specs.State.{machine};
-ghost use Rattle.ia32_step.specs.Operands.{IsEffect};
+ghost use Rattle.ia32_step.specs.State.{machine, left};
+ghost use Rattle.ia32_step.specs.Operands.{IsWrite, Leaves};
 ghost use Rattle.ia32_step.specs.Arithmetic.{computed, changed, compared, altered, shifted, double_shifted};
 
-use crate::effects::{Effect, Stop, settled, stored};
+use crate::effects::{Stop, Write, store};
 use crate::operands::load;
 use crate::registers::Regs;
 use ia32_arithmetic::{
@@ -17,55 +17,52 @@ use ia32_decode::Instr;
 use nd_mem::Memory;
 
 /// The first operand becomes the value.
-fn computed(i: Instr, w: Width, r: &Regs, c: Computed) -> Effect
+fn computed(i: &Instr, w: Width, c: Computed, r: &mut Regs) -> Write
     requires { c.value < size w }
-    ensures value { result ≡ computed i w r.now c }
-    ensures effect { IsEffect result }
+    ensures value { left r.new result ≡ computed i.now w r.old c }
+    ensures write { IsWrite result }
 {
-    stored(w, i.first, c.value, r, settled(*r, c.flags))
+    store(w, &i.first, c.value, c.flags, r)
 }
 
 /// ADD, ADC, AND, OR, SBB, SUB, XOR
 #[tactic(auto, unfolding(crate::specs::Arithmetic::changed))]
-pub fn changed(op: BinaryOp, i: Instr, w: Width, r: &Regs, m: &Memory) -> Result<Effect, Stop>
-    ensures value { result ≡ changed op i w (machine r.now m.now) }
-    ensures effect { IfOk result IsEffect }
+pub fn changed(op: BinaryOp, i: &Instr, w: Width, r: &mut Regs, m: &Memory) -> Result<Write, Stop>
+    ensures { Leaves result r.new (changed op i.now w (machine r.old m.now)) }
 {
-    let a = load(w, i.first, i.imm, r, m)?;
-    let b = load(w, i.second, i.imm, r, m)?;
-    Ok(computed(i, w, r, binary(op, w, a, b, r.flags)))
+    let a = load(w, &i.first, i.imm, r, m)?;
+    let b = load(w, &i.second, i.imm, r, m)?;
+    Ok(computed(i, w, binary(op, w, a, b, r.flags), r))
 }
 
 /// CMP, TEST: the flags of SUB and AND alone.
 #[tactic(auto, unfolding(crate::specs::Arithmetic::compared))]
-pub fn compared(op: BinaryOp, i: Instr, w: Width, r: &Regs, m: &Memory) -> Result<Effect, Stop>
-    ensures value { result ≡ compared op i w (machine r.now m.now) }
-    ensures effect { IfOk result IsEffect }
+pub fn compared(op: BinaryOp, i: &Instr, w: Width, r: &mut Regs, m: &Memory) -> Result<Write, Stop>
+    ensures { Leaves result r.new (compared op i.now w (machine r.old m.now)) }
 {
-    let a = load(w, i.first, i.imm, r, m)?;
-    let b = load(w, i.second, i.imm, r, m)?;
-    Ok(settled(*r, binary(op, w, a, b, r.flags).flags))
+    let a = load(w, &i.first, i.imm, r, m)?;
+    let b = load(w, &i.second, i.imm, r, m)?;
+    r.flags = binary(op, w, a, b, r.flags).flags;
+    Ok(Write::Absent)
 }
 
 /// INC, DEC, NEG, NOT
 #[tactic(auto, unfolding(crate::specs::Arithmetic::altered))]
-pub fn altered(op: UnaryOp, i: Instr, w: Width, r: &Regs, m: &Memory) -> Result<Effect, Stop>
-    ensures value { result ≡ altered op i w (machine r.now m.now) }
-    ensures effect { IfOk result IsEffect }
+pub fn altered(op: UnaryOp, i: &Instr, w: Width, r: &mut Regs, m: &Memory) -> Result<Write, Stop>
+    ensures { Leaves result r.new (altered op i.now w (machine r.old m.now)) }
 {
-    let a = load(w, i.first, i.imm, r, m)?;
-    Ok(computed(i, w, r, unary(op, w, a, r.flags)))
+    let a = load(w, &i.first, i.imm, r, m)?;
+    Ok(computed(i, w, unary(op, w, a, r.flags), r))
 }
 
 /// SHL, SHR, SAR, ROL, ROR, RCL, RCR by the second operand.
 #[tactic(auto, unfolding(crate::specs::Arithmetic::shifted))]
-pub fn shifted(op: ShiftOp, i: Instr, w: Width, r: &Regs, m: &Memory) -> Result<Effect, Stop>
-    ensures value { result ≡ shifted op i w (machine r.now m.now) }
-    ensures effect { IfOk result IsEffect }
+pub fn shifted(op: ShiftOp, i: &Instr, w: Width, r: &mut Regs, m: &Memory) -> Result<Write, Stop>
+    ensures { Leaves result r.new (shifted op i.now w (machine r.old m.now)) }
 {
-    let a = load(w, i.first, i.imm, r, m)?;
-    let n = load(w, i.second, i.imm, r, m)?;
-    Ok(computed(i, w, r, shift(op, w, a, n, r.flags)))
+    let a = load(w, &i.first, i.imm, r, m)?;
+    let n = load(w, &i.second, i.imm, r, m)?;
+    Ok(computed(i, w, shift(op, w, a, n, r.flags), r))
 }
 
 /// SHLD, SHRD by a count.
@@ -73,15 +70,14 @@ pub fn shifted(op: ShiftOp, i: Instr, w: Width, r: &Regs, m: &Memory) -> Result<
 pub fn double_shifted(
     op: DoubleShiftOp,
     n: u32,
-    i: Instr,
+    i: &Instr,
     w: Width,
-    r: &Regs,
+    r: &mut Regs,
     m: &Memory,
-) -> Result<Effect, Stop>
-    ensures value { result ≡ double_shifted op n i w (machine r.now m.now) }
-    ensures effect { IfOk result IsEffect }
+) -> Result<Write, Stop>
+    ensures { Leaves result r.new (double_shifted op n i.now w (machine r.old m.now)) }
 {
-    let a = load(w, i.first, i.imm, r, m)?;
-    let b = load(w, i.second, i.imm, r, m)?;
-    Ok(computed(i, w, r, double_shift(op, w, a, b, n, r.flags)))
+    let a = load(w, &i.first, i.imm, r, m)?;
+    let b = load(w, &i.second, i.imm, r, m)?;
+    Ok(computed(i, w, double_shift(op, w, a, b, n, r.flags), r))
 }

@@ -1,12 +1,12 @@
 //! Bits of operands.
 
-ghost use Rattle.std.specs.Prelude.{◌≡◌, ◌<◌, IfOk};
+ghost use Rattle.std.specs.Prelude.{◌≡◌, ◌<◌};
 ghost use Rattle.ia32_arithmetic.specs.Widths.{size};
 ghost use Rattle.ia32_step.specs.State.{machine};
-ghost use Rattle.ia32_step.specs.Operands.{IsEffect};
+ghost use Rattle.ia32_step.specs.Operands.{Leaves};
 ghost use Rattle.ia32_step.specs.BitStrings.{displacement, place_of_bit, bit_done, scanned_forward, scanned_back};
 
-use crate::effects::{Effect, Stop, settled, stored};
+use crate::effects::{Stop, Write, store};
 use crate::operands::load;
 use crate::registers::Regs;
 use ia32_arithmetic::{
@@ -29,9 +29,9 @@ fn displacement(w: Width, offset: u32) -> u32
 
 /// The operand with the bit.
 #[tactic(auto, unfolding(crate::specs::BitStrings::place_of_bit))]
-fn place_of_bit(i: Instr, w: Width, offset: u32) -> Operand
+fn place_of_bit(i: &Instr, w: Width, offset: u32) -> Operand
     requires { offset < size w }
-    ensures { result ≡ place_of_bit i w offset }
+    ensures { result ≡ place_of_bit i.now w offset }
 {
     let distance = displacement(w, offset);
     match (i.first, i.second) {
@@ -55,55 +55,62 @@ fn place_of_bit(i: Instr, w: Width, offset: u32) -> Operand
 
 /// BT, and with an operation BTS, BTR, BTC.
 #[tactic(auto, unfolding(crate::specs::BitStrings::bit_done))]
-pub fn bit_done(op: Option<BitOp>, i: Instr, w: Width, r: &Regs, m: &Memory) -> Result<Effect, Stop>
-    ensures value { result ≡ bit_done op i w (machine r.now m.now) }
-    ensures effect { IfOk result IsEffect }
+pub fn bit_done(
+    op: Option<BitOp>,
+    i: &Instr,
+    w: Width,
+    r: &mut Regs,
+    m: &Memory,
+) -> Result<Write, Stop>
+    ensures { Leaves result r.new (bit_done op i.now w (machine r.old m.now)) }
 {
-    let offset = load(w, i.second, i.imm, r, m)?;
+    let offset = load(w, &i.second, i.imm, r, m)?;
     let place = place_of_bit(i, w, offset);
     let n = (offset % u32::from(w.bits())) as u8;
-    let a = load(w, place, i.imm, r, m)?;
+    let a = load(w, &place, i.imm, r, m)?;
     let flags = Flags {
         carry: has_bit(a, n),
         ..r.flags
     };
-    let e = settled(*r, flags);
     match op {
-        None => Ok(e),
-        Some(op) => Ok(stored(w, place, change_bit(op, w, a, n), r, e)),
+        None => {
+            r.flags = flags;
+            Ok(Write::Absent)
+        }
+        Some(op) => Ok(store(w, &place, change_bit(op, w, a, n), flags, r)),
     }
 }
 
 /// BSF
 #[tactic(auto, using(crate::proofs::Sets::sizes), unfolding(crate::specs::BitStrings::scanned_forward))]
-pub fn scanned_forward(i: Instr, w: Width, r: &Regs, m: &Memory) -> Result<Effect, Stop>
-    ensures value { result ≡ scanned_forward i w (machine r.now m.now) }
-    ensures effect { IfOk result IsEffect }
+pub fn scanned_forward(i: &Instr, w: Width, r: &mut Regs, m: &Memory) -> Result<Write, Stop>
+    ensures { Leaves result r.new (scanned_forward i.now w (machine r.old m.now)) }
 {
-    let a = load(w, i.second, i.imm, r, m)?;
+    let a = load(w, &i.second, i.imm, r, m)?;
     let flags = Flags {
         zero: a == 0,
         ..r.flags
     };
     if a == 0 {
-        return Ok(settled(*r, flags));
+        r.flags = flags;
+        return Ok(Write::Absent);
     }
-    Ok(stored(w, i.first, lowest_bit(a), r, settled(*r, flags)))
+    Ok(store(w, &i.first, lowest_bit(a), flags, r))
 }
 
 /// BSR
 #[tactic(auto, using(crate::proofs::Sets::sizes), unfolding(crate::specs::BitStrings::scanned_back))]
-pub fn scanned_back(i: Instr, w: Width, r: &Regs, m: &Memory) -> Result<Effect, Stop>
-    ensures value { result ≡ scanned_back i w (machine r.now m.now) }
-    ensures effect { IfOk result IsEffect }
+pub fn scanned_back(i: &Instr, w: Width, r: &mut Regs, m: &Memory) -> Result<Write, Stop>
+    ensures { Leaves result r.new (scanned_back i.now w (machine r.old m.now)) }
 {
-    let a = load(w, i.second, i.imm, r, m)?;
+    let a = load(w, &i.second, i.imm, r, m)?;
     let flags = Flags {
         zero: a == 0,
         ..r.flags
     };
     if a == 0 {
-        return Ok(settled(*r, flags));
+        r.flags = flags;
+        return Ok(Write::Absent);
     }
-    Ok(stored(w, i.first, highest_bit(a), r, settled(*r, flags)))
+    Ok(store(w, &i.first, highest_bit(a), flags, r))
 }

@@ -1,11 +1,11 @@
 //! Jumps, calls, returns and loops.
 
-ghost use Rattle.std.specs.Prelude.{◌≡◌, IfOk};
+ghost use Rattle.std.specs.Prelude.{◌≡◌};
 ghost use Rattle.ia32_step.specs.State.{machine};
-ghost use Rattle.ia32_step.specs.Operands.{IsEffect};
+ghost use Rattle.ia32_step.specs.Operands.{Leaves};
 ghost use Rattle.ia32_step.specs.Control.{advanced, target_of, gone, gone_if, called, returned, left, looped};
 
-use crate::effects::{Effect, Stop, settled};
+use crate::effects::{Stop, Write};
 use crate::operands::{load, read};
 use crate::registers::{EBP, ECX, ESP, Regs};
 use crate::stack::push;
@@ -13,26 +13,23 @@ use ia32_arithmetic::Width;
 use ia32_decode::{Instr, Operand};
 use nd_mem::Memory;
 
-/// The registers with EIP so much further on.
-pub fn advanced(n: u32, r: Regs) -> Regs
-    ensures { result ≡ advanced n r }
+/// EIP goes on by so much.
+pub fn advance(n: u32, r: &mut Regs)
+    ensures { r.new ≡ advanced n r.old }
 {
-    Regs {
-        eip: r.eip.wrapping_add(n),
-        ..r
-    }
+    r.eip = r.eip.wrapping_add(n);
 }
 
 /// Where a jump or a call goes.
 #[tactic(auto, unfolding(crate::specs::Control::target_of))]
-fn target_of(i: Instr, r: &Regs, m: &Memory) -> Result<u32, Stop>
-    ensures { result ≡ target_of i (machine r.now m.now) }
+fn target_of(i: &Instr, r: &Regs, m: &Memory) -> Result<u32, Stop>
+    ensures { result ≡ target_of i.now (machine r.now m.now) }
 {
     match i.first {
         Operand::Imm => Ok(r.eip.wrapping_add(i.imm)),
         Operand::Absent | Operand::Reg(_) | Operand::Place { .. } => load(
             Width::Doubleword,
-            i.first,
+            &i.first,
             i.imm,
             r,
             m,
@@ -42,72 +39,66 @@ fn target_of(i: Instr, r: &Regs, m: &Memory) -> Result<u32, Stop>
 
 /// JMP
 #[tactic(auto, unfolding(crate::specs::Control::gone))]
-pub fn gone(i: Instr, r: &Regs, m: &Memory) -> Result<Effect, Stop>
-    ensures value { result ≡ gone i (machine r.now m.now) }
-    ensures effect { IfOk result IsEffect }
+pub fn gone(i: &Instr, r: &mut Regs, m: &Memory) -> Result<Write, Stop>
+    ensures { Leaves result r.new (gone i.now (machine r.old m.now)) }
 {
-    let eip = target_of(i, r, m)?;
-    Ok(settled(Regs { eip, ..*r }, r.flags))
+    r.eip = target_of(i, r, m)?;
+    Ok(Write::Absent)
 }
 
 /// Jcc, JECXZ
 #[tactic(auto, unfolding(crate::specs::Control::gone_if))]
-pub fn gone_if(c: bool, i: Instr, r: &Regs) -> Result<Effect, Stop>
-    ensures value { result ≡ gone_if c i r.now }
-    ensures effect { IfOk result IsEffect }
+pub fn gone_if(c: bool, i: &Instr, r: &mut Regs) -> Result<Write, Stop>
+    ensures { Leaves result r.new (gone_if c i.now r.old) }
 {
-    let next = if c { advanced(i.imm, *r) } else { *r };
-    Ok(settled(next, r.flags))
+    if c {
+        advance(i.imm, r);
+    }
+    Ok(Write::Absent)
 }
 
 /// CALL
 #[tactic(auto, unfolding(crate::specs::Control::called))]
-pub fn called(i: Instr, r: &Regs, m: &Memory) -> Result<Effect, Stop>
-    ensures value { result ≡ called i (machine r.now m.now) }
-    ensures effect { IfOk result IsEffect }
+pub fn called(i: &Instr, r: &mut Regs, m: &Memory) -> Result<Write, Stop>
+    ensures { Leaves result r.new (called i.now (machine r.old m.now)) }
 {
-    let eip = target_of(i, r, m)?;
-    Ok(push(Width::Doubleword, r.eip, Regs { eip, ..*r }))
+    let next = r.eip;
+    r.eip = target_of(i, r, m)?;
+    Ok(push(Width::Doubleword, next, r))
 }
 
 /// RET
 #[tactic(auto, unfolding(crate::specs::Control::returned))]
-pub fn returned(i: Instr, r: &Regs, m: &Memory) -> Result<Effect, Stop>
-    ensures value { result ≡ returned i (machine r.now m.now) }
-    ensures effect { IfOk result IsEffect }
+pub fn returned(i: &Instr, r: &mut Regs, m: &Memory) -> Result<Write, Stop>
+    ensures { Leaves result r.new (returned i.now (machine r.old m.now)) }
 {
     let top = r.general[ESP];
-    let eip = read(Width::Doubleword, top, m)?;
-    let mut next = Regs { eip, ..*r };
-    next.general[ESP] = top.wrapping_add(4).wrapping_add(i.imm);
-    Ok(settled(next, r.flags))
+    r.eip = read(Width::Doubleword, top, m)?;
+    r.general[ESP] = top.wrapping_add(4).wrapping_add(i.imm);
+    Ok(Write::Absent)
 }
 
 /// LEAVE
 #[tactic(auto, unfolding(crate::specs::Control::left))]
-pub fn left(r: &Regs, m: &Memory) -> Result<Effect, Stop>
-    ensures value { result ≡ left (machine r.now m.now) }
-    ensures effect { IfOk result IsEffect }
+pub fn left(r: &mut Regs, m: &Memory) -> Result<Write, Stop>
+    ensures { Leaves result r.new (left (machine r.old m.now)) }
 {
     let top = r.general[EBP];
     let v = read(Width::Doubleword, top, m)?;
-    let mut next = *r;
-    next.general[ESP] = top.wrapping_add(4);
-    next.general[EBP] = v;
-    Ok(settled(next, r.flags))
+    r.general[ESP] = top.wrapping_add(4);
+    r.general[EBP] = v;
+    Ok(Write::Absent)
 }
 
 /// LOOP, LOOPE and LOOPNE, whose further condition is `c`.
 #[tactic(auto, unfolding(crate::specs::Control::looped))]
-pub fn looped(c: bool, i: Instr, r: &Regs) -> Result<Effect, Stop>
-    ensures value { result ≡ looped c i r.now }
-    ensures effect { IfOk result IsEffect }
+pub fn looped(c: bool, i: &Instr, r: &mut Regs) -> Result<Write, Stop>
+    ensures { Leaves result r.new (looped c i.now r.old) }
 {
     let count = r.general[ECX].wrapping_sub(1);
-    let mut next = *r;
-    next.general[ECX] = count;
+    r.general[ECX] = count;
     if count != 0 && c {
-        next.eip = r.eip.wrapping_add(i.imm);
+        r.eip = r.eip.wrapping_add(i.imm);
     }
-    Ok(settled(next, r.flags))
+    Ok(Write::Absent)
 }

@@ -1,12 +1,13 @@
-//! What an instruction leaves: new registers and at most one write. Only `commit` changes anything.
+//! What an instruction leaves: it changes the registers in place, and makes at most one write, which
+//! `commit` makes.
 
 ghost use Rattle.std.specs.Prelude.{◌≡◌, ◌<◌};
 ghost use Rattle.ia32_arithmetic.specs.Widths.{size};
-ghost use Rattle.ia32_step.specs.State.{machine};
-ghost use Rattle.ia32_step.specs.Operands.{IsEffect, settled, stored, bytes_of_eight, committed, answer_to, after};
+ghost use Rattle.ia32_step.specs.State.{left};
+ghost use Rattle.ia32_step.specs.Operands.{IsWrite, address_in, settled, stored_at, stored, bytes_of_all, written, answer_to, after};
 
 use crate::operands::address_of;
-use crate::registers::{Regs, with_part};
+use crate::registers::{Regs, set_part};
 use ia32_arithmetic::{Flags, Width};
 use ia32_decode::Operand;
 use nd_base::Addr;
@@ -25,69 +26,68 @@ pub enum Write {
     Absent,
     /// A number of the width, at the address.
     Number(Width, u32, u32),
-    /// Eight numbers of four bytes, the first at the address.
-    Eight(u32, [u32; 8]),
+    /// The general registers as they were before the instruction, EDI at the address and EAX last.
+    Registers(u32),
 }
 
-/// What an instruction leaves, if its write has no fault.
-#[derive(Clone, Copy, Debug, PartialEq, Eq)]
-pub struct Effect {
-    pub registers: Regs,
-    pub write: Write,
-}
-
-/// The registers with these flags, and no write.
-pub fn settled(registers: Regs, flags: Flags) -> Effect
-    ensures { result ≡ settled registers flags }
+/// The address in an operand.
+#[tactic(auto, unfolding(crate::specs::Operands::address_in))]
+pub fn address_in(o: &Operand, r: &Regs) -> u32
+    ensures { result ≡ address_in o.now r.now }
 {
-    Effect {
-        registers: Regs { flags, ..registers },
-        write: Write::Absent,
-    }
-}
-
-/// The effect with a number in an operand, whose address is by these registers.
-#[tactic(auto, unfolding(crate::specs::Operands::stored))]
-pub fn stored(w: Width, o: Operand, v: u32, r: &Regs, e: Effect) -> Effect
-    requires fits { v < size w }
-    requires effect { IsEffect e }
-    ensures value { result ≡ stored w o v r.now e }
-    ensures effect { IsEffect result }
-{
-    match o {
-        Operand::Reg(n) => Effect {
-            registers: with_part(w, n, v, e.registers),
-            ..e
-        },
+    match *o {
         Operand::Place {
             base,
             index,
             scale,
             offset,
-        } => {
-            let at = address_of(base, index, scale, offset, r);
-            Effect {
-                write: Write::Number(w, at, v),
-                ..e
-            }
-        }
-        Operand::Imm | Operand::Absent => e,
+        } => address_of(base, index, scale, offset, r),
+        Operand::Absent | Operand::Reg(_) | Operand::Imm => 0,
     }
 }
 
-/// Eight numbers, the lowest byte of each first.
-#[tactic(auto, unfolding(crate::specs::Operands::bytes_of_eight))]
-fn bytes_of_eight(ns: [u32; 8]) -> [u8; 32]
-    ensures { result ≡ bytes_of_eight ns }
+/// A number into an operand, at this address if it is in memory, where so far this write is left.
+#[tactic(auto, unfolding(crate::specs::Operands::stored_at))]
+pub fn put(w: Width, o: &Operand, at: u32, v: u32, r: &mut Regs, write: Write) -> Write
+    requires fits { v < size w }
+    requires write { IsWrite write }
+    ensures value { left r.new result ≡ stored_at w o.now at v (left r.old write) }
+    ensures write { IsWrite result }
 {
-    let a = ns[0].to_le_bytes();
-    let b = ns[1].to_le_bytes();
-    let c = ns[2].to_le_bytes();
-    let d = ns[3].to_le_bytes();
-    let e = ns[4].to_le_bytes();
-    let f = ns[5].to_le_bytes();
-    let g = ns[6].to_le_bytes();
-    let h = ns[7].to_le_bytes();
+    match *o {
+        Operand::Reg(n) => {
+            set_part(w, n, v, r);
+            write
+        }
+        Operand::Place { .. } => Write::Number(w, at, v),
+        Operand::Imm | Operand::Absent => write,
+    }
+}
+
+/// A number into an operand, and the flags.
+pub fn store(w: Width, o: &Operand, v: u32, flags: Flags, r: &mut Regs) -> Write
+    requires { v < size w }
+    ensures value { left r.new result ≡ stored w o.now v r.old (settled r.old flags) }
+    ensures write { IsWrite result }
+{
+    let at = address_in(o, r);
+    r.flags = flags;
+    put(w, o, at, v, r, Write::Absent)
+}
+
+/// The general registers, the lowest byte of each first, EDI before all others.
+#[tactic(auto, unfolding(crate::specs::Operands::bytes_of_all))]
+fn bytes_of_all(r: &Regs) -> [u8; 32]
+    ensures { result ≡ bytes_of_all r.now }
+{
+    let a = r.general[7].to_le_bytes();
+    let b = r.general[6].to_le_bytes();
+    let c = r.general[5].to_le_bytes();
+    let d = r.general[4].to_le_bytes();
+    let e = r.general[3].to_le_bytes();
+    let f = r.general[2].to_le_bytes();
+    let g = r.general[1].to_le_bytes();
+    let h = r.general[0].to_le_bytes();
     [
         a[0], a[1], a[2], a[3], b[0], b[1], b[2], b[3], c[0], c[1], c[2], c[3], d[0], d[1], d[2],
         d[3], e[0], e[1], e[2], e[3], f[0], f[1], f[2], f[3], g[0], g[1], g[2], g[3], h[0], h[1],
@@ -95,26 +95,21 @@ fn bytes_of_eight(ns: [u32; 8]) -> [u8; 32]
     ]
 }
 
-/// Makes the write, if there is one, and then the registers are the effect's. A fault changes
-/// nothing.
-#[tactic(auto, unfolding(crate::specs::Operands::committed))]
-pub fn commit(e: Effect, r: &mut Regs, m: &mut Memory) -> Result<(), Stop>
-    requires { IsEffect e }
-    ensures answer { result ≡ answer_to (committed e m.old) }
-    ensures state { machine r.new m.new ≡ after (committed e m.old) (machine r.old m.old) }
+/// Makes the write of an instruction before which the registers were these. A fault changes nothing.
+pub fn commit(write: Write, before: &Regs, m: &mut Memory) -> Result<(), Stop>
+    requires { IsWrite write }
+    ensures answer { result ≡ answer_to (written write before.now m.old) }
+    ensures state { m.new ≡ after (written write before.now m.old) m.old }
 {
-    let done = match e.write {
+    let done = match write {
         Write::Absent => Ok(()),
         Write::Number(Width::Byte, at, v) => m.write(Addr(at), &(v as u8).to_le_bytes()),
         Write::Number(Width::Word, at, v) => m.write(Addr(at), &(v as u16).to_le_bytes()),
         Write::Number(Width::Doubleword, at, v) => m.write(Addr(at), &v.to_le_bytes()),
-        Write::Eight(at, ns) => m.write(Addr(at), &bytes_of_eight(ns)),
+        Write::Registers(at) => m.write(Addr(at), &bytes_of_all(before)),
     };
     match done {
-        Ok(()) => {
-            *r = e.registers;
-            Ok(())
-        }
+        Ok(()) => Ok(()),
         Err(fault) => Err(Stop::Memory(fault)),
     }
 }

@@ -1,15 +1,15 @@
 //! What an instruction does: a match over operations, which names each one's family.
 
-ghost use Rattle.std.specs.Prelude.{◌≡◌, IfOk};
+ghost use Rattle.std.specs.Prelude.{◌≡◌, Ok};
 ghost use Rattle.ia32_step.specs.State.{machine};
-ghost use Rattle.ia32_step.specs.Operands.{IsEffect, settled, answer_to, after};
+ghost use Rattle.ia32_step.specs.Operands.{Leaves, settled, answer_to, after};
 ghost use Rattle.ia32_step.specs.Meaning.{width_of, effect_of, meaning};
 
 use crate::arithmetic::{altered, changed, compared, double_shifted, shifted};
 use crate::bit_strings::{bit_done, scanned_back, scanned_forward};
 use crate::conditions::holds;
-use crate::control::{advanced, called, gone, gone_if, left, looped, returned};
-use crate::effects::{Effect, Stop, commit, settled};
+use crate::control::{advance, called, gone, gone_if, left, looped, returned};
+use crate::effects::{Stop, Write, commit};
 use crate::moves::{
     compared_exchanged, converted, converted_double, exchanged, exchanged_added, loaded_address,
     moved, moved_if, moved_sign, moved_zero, set_if, swapped_bytes,
@@ -36,29 +36,26 @@ fn width_of(bytes: u8) -> Width
     }
 }
 
-fn with_carry(carry: bool, r: &Regs) -> Effect
-    ensures { result ≡ settled r.now (record r.now.flags { carry = carry }) }
+/// CLC, CMC, STC
+fn with_carry(carry: bool, r: &mut Regs) -> Result<Write, Stop>
+    ensures { Leaves result r.new (Ok (settled r.old (record r.old.flags { carry = carry }))) }
 {
-    settled(*r, Flags { carry, ..r.flags })
+    r.flags.carry = carry;
+    Ok(Write::Absent)
 }
 
-fn with_direction(direction: bool, r: &Regs) -> Effect
-    ensures { result ≡ settled r.now (record r.now.flags { direction = direction }) }
+/// CLD, STD
+fn with_direction(direction: bool, r: &mut Regs) -> Result<Write, Stop>
+    ensures { Leaves result r.new (Ok (settled r.old (record r.old.flags { direction = direction }))) }
 {
-    settled(
-        *r,
-        Flags {
-            direction,
-            ..r.flags
-        },
-    )
+    r.flags.direction = direction;
+    Ok(Write::Absent)
 }
 
 /// What the instruction leaves, which begins at start, where EIP is already that of the next one.
 #[tactic(auto, unfolding(crate::specs::Meaning::effect_of))]
-fn effect_of(i: Instr, start: u32, r: &Regs, m: &Memory) -> Result<Effect, Stop>
-    ensures value { result ≡ effect_of i start (machine r.now m.now) }
-    ensures effect { IfOk result IsEffect }
+fn effect_of(i: &Instr, start: u32, r: &mut Regs, m: &Memory) -> Result<Write, Stop>
+    ensures { Leaves result r.new (effect_of i.now start (machine r.old m.now)) }
 {
     let w = width_of(i.width);
     match i.op {
@@ -73,9 +70,9 @@ fn effect_of(i: Instr, start: u32, r: &Regs, m: &Memory) -> Result<Effect, Stop>
         Op::Btr => bit_done(Some(BitOp::Reset), i, w, r, m),
         Op::Bts => bit_done(Some(BitOp::Set), i, w, r, m),
         Op::Call => called(i, r, m),
-        Op::Clc => Ok(with_carry(false, r)),
-        Op::Cld => Ok(with_direction(false, r)),
-        Op::Cmc => Ok(with_carry(!r.flags.carry, r)),
+        Op::Clc => with_carry(false, r),
+        Op::Cld => with_direction(false, r),
+        Op::Cmc => with_carry(!r.flags.carry, r),
         Op::Cmovcc(c) => moved_if(holds(c, r.flags), i, w, r, m),
         Op::Cmp => compared(BinaryOp::Sub, i, w, r, m),
         Op::Cmps => string_done(StringOp::Cmps, i, w, start, r, m),
@@ -107,7 +104,7 @@ fn effect_of(i: Instr, start: u32, r: &Regs, m: &Memory) -> Result<Effect, Stop>
         Op::MovzxWord => moved_zero(Width::Word, i, w, r, m),
         Op::Mul => multiplied(i, w, r, m),
         Op::Neg => altered(UnaryOp::Neg, i, w, r, m),
-        Op::Nop => Ok(settled(*r, r.flags)),
+        Op::Nop => Ok(Write::Absent),
         Op::Not => altered(UnaryOp::Not, i, w, r, m),
         Op::Or => changed(BinaryOp::Or, i, w, r, m),
         Op::Pop => popped(i, w, r, m),
@@ -132,8 +129,8 @@ fn effect_of(i: Instr, start: u32, r: &Regs, m: &Memory) -> Result<Effect, Stop>
         Op::Shr => shifted(ShiftOp::Shr, i, w, r, m),
         Op::ShrdCl => double_shifted(DoubleShiftOp::Shrd, r.general[ECX], i, w, r, m),
         Op::ShrdImmediate => double_shifted(DoubleShiftOp::Shrd, i.imm, i, w, r, m),
-        Op::Stc => Ok(with_carry(true, r)),
-        Op::Std => Ok(with_direction(true, r)),
+        Op::Stc => with_carry(true, r),
+        Op::Std => with_direction(true, r),
         Op::Stos => string_done(StringOp::Stos, i, w, start, r, m),
         Op::Sub => changed(BinaryOp::Sub, i, w, r, m),
         Op::Test => compared(BinaryOp::And, i, w, r, m),
@@ -144,12 +141,19 @@ fn effect_of(i: Instr, start: u32, r: &Regs, m: &Memory) -> Result<Effect, Stop>
 }
 
 /// Does the instruction, which so many bytes spell. Without a result nothing changes.
-#[tactic(auto, unfolding(crate::specs::Meaning::meaning))]
-pub fn execute(i: Instr, length: u8, r: &mut Regs, m: &mut Memory) -> Result<(), Stop>
-    ensures answer { result ≡ answer_to (meaning i length (machine r.old m.old)) }
-    ensures state { machine r.new m.new ≡ after (meaning i length (machine r.old m.old)) (machine r.old m.old) }
+#[tactic(auto, unfolding(crate::specs::Meaning::meaning, crate::specs::Operands::committed))]
+pub fn execute(i: &Instr, length: u8, r: &mut Regs, m: &mut Memory) -> Result<(), Stop>
+    ensures answer { result ≡ answer_to (meaning i.now length (machine r.old m.old)) }
+    ensures state { machine r.new m.new ≡ after (meaning i.now length (machine r.old m.old)) (machine r.old m.old) }
 {
-    let next = advanced(u32::from(length), *r);
-    let effect = effect_of(i, r.eip, &next, m)?;
-    commit(effect, r, m)
+    let before = *r;
+    advance(u32::from(length), r);
+    let done = match effect_of(i, before.eip, r, m) {
+        Ok(write) => commit(write, &before, m),
+        Err(stop) => Err(stop),
+    };
+    if done.is_err() {
+        *r = before;
+    }
+    done
 }

@@ -80,9 +80,9 @@ fn stopped(stop: Stop, eip: u32) -> Stepped
 }
 
 /// Does the instruction, which so many bytes spell.
-fn run_one(i: Instr, length: u8, r: &mut Regs, m: &mut Memory) -> Stepped
-    ensures answer { result ≡ answer_to (done_by i length (machine r.old m.old)) }
-    ensures state { machine r.new m.new ≡ after (done_by i length (machine r.old m.old)) (machine r.old m.old) }
+fn run_one(i: &Instr, length: u8, r: &mut Regs, m: &mut Memory) -> Stepped
+    ensures answer { result ≡ answer_to (done_by i.now length (machine r.old m.old)) }
+    ensures state { machine r.new m.new ≡ after (done_by i.now length (machine r.old m.old)) (machine r.old m.old) }
 {
     let eip = r.eip;
     match execute(i, length, r, m) {
@@ -112,7 +112,7 @@ fn run(code: &[u8], r: &mut Regs, m: &mut Memory) -> Stepped
     ensures state { machine r.new m.new ≡ after (run_of code.now (machine r.old m.old)) (machine r.old m.old) }
 {
     match decode(code) {
-        Decoded::One(i, length) => run_one(i, length, r, m),
+        Decoded::One(i, length) => run_one(&i, length, r, m),
         Decoded::Outside(_) => Stepped::Fault(FaultKind::Outside, Addr(r.eip)),
         Decoded::More => cut_off(code.len(), r, m),
     }

@@ -64,11 +64,11 @@ pub fn read(w: Width, at: u32, m: &Memory) -> Result<u32, Stop>
 
 /// An operand's number, where `imm` is the instruction's immediate.
 #[tactic(auto, unfolding(crate::specs::Operands::load))]
-pub fn load(w: Width, o: Operand, imm: u32, r: &Regs, m: &Memory) -> Result<u32, Stop>
-    ensures value { result ≡ load w o imm (machine r.now m.now) }
+pub fn load(w: Width, o: &Operand, imm: u32, r: &Regs, m: &Memory) -> Result<u32, Stop>
+    ensures value { result ≡ load w o.now imm (machine r.now m.now) }
     ensures fits { IfOk result (λ n. n < size w) }
 {
-    match o {
+    match *o {
         Operand::Reg(n) => Ok(part(w, n, r)),
         Operand::Place {
             base,

@@ -54,13 +54,12 @@ pub(crate) fn part(w: Width, n: u8, r: &Regs) -> u32
     }
 }
 
-/// The registers with one of them, or a part of it, changed.
+/// One of the registers, or a part of it, becomes the number.
 #[tactic(auto, unfolding(crate::specs::Registers::with_part))]
-pub(crate) fn with_part(w: Width, n: u8, v: u32, r: Regs) -> Regs
+pub(crate) fn set_part(w: Width, n: u8, v: u32, r: &mut Regs)
     requires { v < size w }
-    ensures { result ≡ with_part w n v r }
+    ensures { r.new ≡ with_part w n v r.old }
 {
-    let mut r = r;
     match w {
         Width::Byte if n % 8 < 4 => {
             let old = r.general[(n % 4) as usize];
@@ -76,5 +75,4 @@ pub(crate) fn with_part(w: Width, n: u8, v: u32, r: Regs) -> Regs
         }
         Width::Doubleword => r.general[(n % 8) as usize] = v,
     }
-    r
 }

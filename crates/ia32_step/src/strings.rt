@@ -1,13 +1,13 @@
 //! String instructions.
 
-ghost use Rattle.std.specs.Prelude.{◌≡◌, IfOk};
+ghost use Rattle.std.specs.Prelude.{◌≡◌};
 ghost use Rattle.ia32_step.specs.State.{machine};
-ghost use Rattle.ia32_step.specs.Operands.{IsEffect};
+ghost use Rattle.ia32_step.specs.Operands.{Leaves};
 ghost use Rattle.ia32_step.specs.Strings.{next_of, copied, filled, taken, scanned, compared_strings, once, while_equal, goes_on, counted_down, string_done};
 
-use crate::effects::{Effect, Stop, Write, settled};
+use crate::effects::{Stop, Write};
 use crate::operands::read;
-use crate::registers::{ECX, EDI, ESI, Regs, part, with_part};
+use crate::registers::{ECX, EDI, ESI, Regs, part, set_part};
 use ia32_arithmetic::{BinaryOp, Flags, Width, binary};
 use ia32_decode::{Instr, Repeat};
 use nd_mem::Memory;
@@ -39,85 +39,72 @@ fn next_of(w: Width, at: u32, f: Flags) -> u32
 
 /// MOVS
 #[tactic(auto, unfolding(crate::specs::Strings::copied))]
-fn copied(w: Width, r: &Regs, m: &Memory) -> Result<Effect, Stop>
-    ensures value { result ≡ copied w (machine r.now m.now) }
-    ensures effect { IfOk result IsEffect }
+fn copied(w: Width, r: &mut Regs, m: &Memory) -> Result<Write, Stop>
+    ensures { Leaves result r.new (copied w (machine r.old m.now)) }
 {
     let from = r.general[ESI];
     let to = r.general[EDI];
     let v = read(w, from, m)?;
-    let mut next = *r;
-    next.general[ESI] = next_of(w, from, r.flags);
-    next.general[EDI] = next_of(w, to, r.flags);
-    Ok(Effect {
-        registers: next,
-        write: Write::Number(w, to, v),
-    })
+    r.general[ESI] = next_of(w, from, r.flags);
+    r.general[EDI] = next_of(w, to, r.flags);
+    Ok(Write::Number(w, to, v))
 }
 
 /// STOS
 #[tactic(auto, unfolding(crate::specs::Strings::filled))]
-fn filled(w: Width, r: &Regs) -> Result<Effect, Stop>
-    ensures value { result ≡ filled w r.now }
-    ensures effect { IfOk result IsEffect }
+fn filled(w: Width, r: &mut Regs) -> Result<Write, Stop>
+    ensures { Leaves result r.new (filled w r.old) }
 {
     let to = r.general[EDI];
-    let mut next = *r;
-    next.general[EDI] = next_of(w, to, r.flags);
-    Ok(Effect {
-        registers: next,
-        write: Write::Number(w, to, part(w, ACCUMULATOR, r)),
-    })
+    let v = part(w, ACCUMULATOR, r);
+    r.general[EDI] = next_of(w, to, r.flags);
+    Ok(Write::Number(w, to, v))
 }
 
 /// LODS
 #[tactic(auto, unfolding(crate::specs::Strings::taken))]
-fn taken(w: Width, r: &Regs, m: &Memory) -> Result<Effect, Stop>
-    ensures value { result ≡ taken w (machine r.now m.now) }
-    ensures effect { IfOk result IsEffect }
+fn taken(w: Width, r: &mut Regs, m: &Memory) -> Result<Write, Stop>
+    ensures { Leaves result r.new (taken w (machine r.old m.now)) }
 {
     let from = r.general[ESI];
     let v = read(w, from, m)?;
-    let mut next = *r;
-    next.general[ESI] = next_of(w, from, r.flags);
-    Ok(settled(with_part(w, ACCUMULATOR, v, next), r.flags))
+    r.general[ESI] = next_of(w, from, r.flags);
+    set_part(w, ACCUMULATOR, v, r);
+    Ok(Write::Absent)
 }
 
 /// SCAS
 #[tactic(auto, unfolding(crate::specs::Strings::scanned))]
-fn scanned(w: Width, r: &Regs, m: &Memory) -> Result<Effect, Stop>
-    ensures value { result ≡ scanned w (machine r.now m.now) }
-    ensures effect { IfOk result IsEffect }
+fn scanned(w: Width, r: &mut Regs, m: &Memory) -> Result<Write, Stop>
+    ensures { Leaves result r.new (scanned w (machine r.old m.now)) }
 {
     let at = r.general[EDI];
     let a = part(w, ACCUMULATOR, r);
     let b = read(w, at, m)?;
-    let mut next = *r;
-    next.general[EDI] = next_of(w, at, r.flags);
-    Ok(settled(next, binary(BinaryOp::Sub, w, a, b, r.flags).flags))
+    r.general[EDI] = next_of(w, at, r.flags);
+    r.flags = binary(BinaryOp::Sub, w, a, b, r.flags).flags;
+    Ok(Write::Absent)
 }
 
 /// CMPS
 #[tactic(auto, unfolding(crate::specs::Strings::compared_strings))]
-fn compared_strings(w: Width, r: &Regs, m: &Memory) -> Result<Effect, Stop>
-    ensures value { result ≡ compared_strings w (machine r.now m.now) }
-    ensures effect { IfOk result IsEffect }
+fn compared_strings(w: Width, r: &mut Regs, m: &Memory) -> Result<Write, Stop>
+    ensures { Leaves result r.new (compared_strings w (machine r.old m.now)) }
 {
     let from = r.general[ESI];
     let to = r.general[EDI];
     let a = read(w, from, m)?;
     let b = read(w, to, m)?;
-    let mut next = *r;
-    next.general[ESI] = next_of(w, from, r.flags);
-    next.general[EDI] = next_of(w, to, r.flags);
-    Ok(settled(next, binary(BinaryOp::Sub, w, a, b, r.flags).flags))
+    r.general[ESI] = next_of(w, from, r.flags);
+    r.general[EDI] = next_of(w, to, r.flags);
+    r.flags = binary(BinaryOp::Sub, w, a, b, r.flags).flags;
+    Ok(Write::Absent)
 }
 
 /// One iteration.
 #[tactic(auto, unfolding(crate::specs::Strings::once))]
-fn once(op: StringOp, w: Width, r: &Regs, m: &Memory) -> Result<Effect, Stop>
-    ensures value { result ≡ once op w (machine r.now m.now) }
-    ensures effect { IfOk result IsEffect }
+fn once(op: StringOp, w: Width, r: &mut Regs, m: &Memory) -> Result<Write, Stop>
+    ensures { Leaves result r.new (once op w (machine r.old m.now)) }
 {
     match op {
         StringOp::Cmps => compared_strings(w, r, m),
@@ -150,42 +137,38 @@ fn goes_on(op: StringOp, repeat: Repeat, zero: bool) -> bool
 
 /// One iteration less is left. EIP stays at the instruction before the last.
 #[tactic(auto, unfolding(crate::specs::Strings::counted_down))]
-fn counted_down(start: u32, more: bool, e: Effect) -> Effect
-    requires { IsEffect e }
-    ensures value { result ≡ counted_down start more e }
-    ensures effect { IsEffect result }
+fn count_down(start: u32, more: bool, r: &mut Regs)
+    ensures { r.new ≡ counted_down start more r.old }
 {
-    let mut e = e;
-    let left = e.registers.general[ECX].wrapping_sub(1);
-    e.registers.general[ECX] = left;
+    let left = r.general[ECX].wrapping_sub(1);
+    r.general[ECX] = left;
     if left != 0 && more {
-        e.registers.eip = start;
+        r.eip = start;
     }
-    e
 }
 
 /// MOVS, STOS, LODS, SCAS, CMPS, where the instruction begins at start.
 #[tactic(auto, unfolding(crate::specs::Strings::string_done))]
 pub fn string_done(
     op: StringOp,
-    i: Instr,
+    i: &Instr,
     w: Width,
     start: u32,
-    r: &Regs,
+    r: &mut Regs,
     m: &Memory,
-) -> Result<Effect, Stop>
-    ensures value { result ≡ string_done op i w start (machine r.now m.now) }
-    ensures effect { IfOk result IsEffect }
+) -> Result<Write, Stop>
+    ensures { Leaves result r.new (string_done op i.now w start (machine r.old m.now)) }
 {
     match i.repeat {
         Repeat::Absent => once(op, w, r, m),
         Repeat::F2 | Repeat::F3 => {
             if r.general[ECX] == 0 {
-                return Ok(settled(*r, r.flags));
+                return Ok(Write::Absent);
             }
-            let e = once(op, w, r, m)?;
-            let more = goes_on(op, i.repeat, e.registers.flags.zero);
-            Ok(counted_down(start, more, e))
+            let write = once(op, w, r, m)?;
+            let more = goes_on(op, i.repeat, r.flags.zero);
+            count_down(start, more, r);
+            Ok(write)
         }
     }
 }

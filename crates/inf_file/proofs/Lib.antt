@@ -1,4 +1,3 @@
-pub mod NumberLemmas
 pub mod StringLemmas
 pub mod StringLaws
 pub mod ModelLemmas
@@ -13,4 +12,3 @@ pub mod AnswerLaws
 pub mod NameLaws
 pub mod EarliestLaws
 pub mod ValueLaws
-pub mod SpellingLaws

@@ -151,8 +151,8 @@ names-params s rows =
     ∙ ap (fold with_name []) (sym (map-append (λ (p : Param). p.name) sets defaults))
     ∙ names-once (names (sets ++ defaults))
 
-pub names-order : (ss : List Section) (id : List ℕ) (params : List Param) → parameters_of ss id ≡ Ok params → names params ≡ each_once (names (set_by_rows ss id ++ defaults_by_rows ss id))
-names-order ss id params h = ap names (answered ss id params h) ∙ names-params (strings_in ss) (rows_of ss id)
+pub names_order : (ss : List Section) (id : List ℕ) (params : List Param) → parameters_of ss id ≡ Ok params → names params ≡ each_once (names (set_by_rows ss id ++ defaults_by_rows ss id))
+names_order ss id params h = ap names (answered ss id params h) ∙ names-params (strings_in ss) (rows_of ss id)
 
-pub names-differ : (ss : List Section) (id : List ℕ) (params : List Param) → parameters_of ss id ≡ Ok params → AllPairs (λ a b. is_same a b ≡ false) (names params)
-names-differ ss id params h = rw (names-order ss id params h) (once-differ _)
+pub names_differ : (ss : List Section) (id : List ℕ) (params : List Param) → parameters_of ss id ≡ Ok params → AllPairs (λ a b. is_same a b ≡ false) (names params)
+names_differ ss id params h = rw (names_order ss id params h) (once-differ _)

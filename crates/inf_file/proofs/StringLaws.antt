@@ -9,15 +9,15 @@ use Rattle.inf_text.specs.Sections.{Line, has_key, value_at}
 use Rattle.inf_file.specs.Strings.{Strings, no_strings, with_string, strings_of, is_percent, meaning, replaced, HasNoPercent}
 use Rattle.inf_file.proofs.StringLemmas.{replaced-key, replaced-last}
 
-pub plain-stays : (s : Strings) (text : List ℕ) → HasNoPercent text → replaced s text ≡ text
-plain-stays s text h = replaced-last s text (omega (arith, ap (λ (ps : List (List ℕ)). length ps) (slice_split_none is_percent text h)))
+pub plain_stays : (s : Strings) (text : List ℕ) → HasNoPercent text → replaced s text ≡ text
+plain_stays s text h = replaced-last s text (omega (arith, ap (λ (ps : List (List ℕ)). length ps) (slice_split_none is_percent text h)))
 
-pub lone-stays : (s : Strings) (plain rest : List ℕ) → HasNoPercent plain → HasNoPercent rest → replaced s (plain ++ 37 ∷ rest) ≡ plain ++ 37 ∷ rest
-lone-stays s plain rest h k =
+pub lone_stays : (s : Strings) (plain rest : List ℕ) → HasNoPercent plain → HasNoPercent rest → replaced s (plain ++ 37 ∷ rest) ≡ plain ++ 37 ∷ rest
+lone_stays s plain rest h k =
     replaced-last s (plain ++ 37 ∷ rest) (omega (arith, ap (λ (ps : List (List ℕ)). length ps) (slice_split_at is_percent plain 37 rest h refl ∙ ap (λ (ps : List (List ℕ)). plain ∷ ps) (slice_split_none is_percent rest k))))
 
-pub key-replaced : (s : Strings) (plain key rest : List ℕ) → HasNoPercent plain → HasNoPercent key → replaced s (plain ++ 37 ∷ (key ++ 37 ∷ rest)) ≡ plain ++ (meaning s key ++ replaced s rest)
-key-replaced s plain key rest h k =
+pub key_replaced : (s : Strings) (plain key rest : List ℕ) → HasNoPercent plain → HasNoPercent key → replaced s (plain ++ 37 ∷ (key ++ 37 ∷ rest)) ≡ plain ++ (meaning s key ++ replaced s rest)
+key_replaced s plain key rest h k =
     replaced-key s (plain ++ 37 ∷ (key ++ 37 ∷ rest)) plain key rest (slice_split_at is_percent plain 37 (key ++ 37 ∷ rest) h refl ∙ ap (λ (ps : List (List ℕ)). plain ∷ ps) (slice_split_at is_percent key 37 rest k refl))
 
 or_assoc : (u v w : Option (List ℕ)) → option_or (option_or u v) w ≡ option_or u (option_or v w)
@@ -33,6 +33,6 @@ first-behind key (l ∷ ls) s =
     first-behind key ls (with_string s l) ∙ or_assoc (s key) (if has_key key l then Some (value_at 0 l) else None) (option_map (value_at 0) (find (has_key key) ls))
     ∙ ap (option_or (s key)) (elim (cases_Bool (has_key key l)) [ inl on ↦ rw on refl | inr off ↦ rw off refl ])
 
-pub first-counts : (lines : List Line) (key : List ℕ) → strings_of lines key ≡ option_map (value_at 0) (find (has_key key) lines)
+pub first_counts : (lines : List Line) (key : List ℕ) → strings_of lines key ≡ option_map (value_at 0) (find (has_key key) lines)
 unfolding strings_of
-first-counts lines key = first-behind key lines no_strings
+first_counts lines key = first-behind key lines no_strings

@@ -1,14 +1,12 @@
 -- Strings under their keys, and the parts of a text between percent signs.
-use Rattle.std.proofs.Common.{inl, inr, ◌≡◌, ℕ, suc, ◌+◌, ◌<◌, ◌≤◌, Bool, true, false, ◌||◌, List, [], ◌∷◌, ◌++◌, length, Option, None, Some, is_some, refl, sym, ap, subst, ◌∙◌, arith, append_assoc, take, drop, ltb}
+use Rattle.std.proofs.Common.{inl, inr, ◌≡◌, ℕ, ◌<◌, ◌≤◌, Bool, true, false, ◌||◌, List, [], ◌∷◌, ◌++◌, length, Option, None, Some, is_some, refl, sym, ap, ◌∙◌, arith, append_assoc}
 use Rattle.std.specs.Prelude.{if◌then◌else◌}
 use Rattle.std.proofs.lemmas.List.{append-nil}
-use Rattle.std.specs.List.{slice_split, onto_first, position_or_len, position, join_with_byte}
+use Rattle.std.specs.List.{slice_split, join_with_byte}
 use Rattle.std.specs.Option.{option_or}
 use Rattle.std.specs.Map.{lookup}
 use Rattle.std.proofs.lemmas.Bool.{cases_Bool}
-use Rattle.std.proofs.lemmas.List.Splits.{join_with_byte-slice_split, length-slice_split, slice_split_first, slice_split-cons_no}
-use Rattle.std.proofs.lemmas.Bool.Decides.{nat_tests}
-use Rattle.std.proofs.lemmas.Option.{cond_some}
+use Rattle.std.proofs.lemmas.List.Splits.{join_with_byte-slice_split, length-slice_split}
 use Rattle.indexmap.specs.IndexMap.{insert_entry}
 use Rattle.inf_text.specs.Names.{is_same, same_laws}
 use Rattle.inf_text.specs.Sections.{Line, has_key, value_at}
@@ -17,30 +15,6 @@ use Rattle.inf_file.specs.Strings.{Strings, no_strings, with_string, is_percent,
 
 fun_ext : {A B : Type 0} {f g : A → B} → ((x : A) → f x ≡ g x) → f ≡ g
 fun_ext h = λ i x. h x i
-
--- ---- where a text is cut
-
-whole : (p : ℕ → Bool) (bs : List ℕ) → length bs ≤ position_or_len p bs → slice_split p bs ≡ bs ∷ []
-whole p [] h = refl
-whole p (b ∷ bs) h = elim (cases_Bool (p b)) [
-  | inl on ↦ let k : suc (length bs) ≤ 0 = rw on at h in absurd (omega arith)
-  | inr off ↦ let k : suc (length bs) ≤ 1 + position_or_len p bs = rw off at h in slice_split-cons_no p b bs off ∙ ap (onto_first b) (whole p bs (omega arith))
-]
-
--- the parts, where the first that passes stands at i
-pub cut : (p : ℕ → Bool) (bs : List ℕ) (i : ℕ) → position p bs ≡ Some i → slice_split p bs ≡ take i bs ∷ slice_split p (drop (i + 1) bs)
-cut p bs i h =
-    let k = cond_some (ltb (position_or_len p bs) (length bs)) (position_or_len p bs) i h in
-    let at : position_or_len p bs ≡ i = k.1 in
-    let within : ltb (position_or_len p bs) (length bs) ≡ true = k.0 in
-    let lt : position_or_len p bs < length bs = grind (arith, nat_tests) in
-    subst (λ (n : ℕ). slice_split p bs ≡ take n bs ∷ slice_split p (drop (n + 1) bs)) at (slice_split_first p bs 0 lt)
-
-pub uncut : (p : ℕ → Bool) (bs : List ℕ) → position p bs ≡ None → slice_split p bs ≡ bs ∷ []
-uncut p bs h = elim (cases_Bool (ltb (position_or_len p bs) (length bs))) [
-  | inl on ↦ let k : Some (position_or_len p bs) ≡ None = rw on at h in absurd (cc)
-  | inr off ↦ let le : length bs ≤ position_or_len p bs = grind (arith, nat_tests) in whole p bs le
-]
 
 -- ---- the table
 

@@ -100,5 +100,5 @@ value-params s rows name =
     value-defaults name defaults (fold (setting s) [] rows)
     ∙ ap (λ (v : Option ParamValue). option_or v (value_of name defaults)) (ap (value_of name) (setting-fold s [] rows) ∙ value-sets name sets [] ∙ or_none (value_of name (reverse sets)))
 
-pub value-last : (ss : List Section) (id : List ℕ) (params : List Param) (name : List ℕ) → parameters_of ss id ≡ Ok params → value_of name params ≡ option_or (value_of name (reverse (set_by_rows ss id))) (value_of name (defaults_by_rows ss id))
-value-last ss id params name h = ap (value_of name) (answered ss id params h) ∙ value-params (strings_in ss) (rows_of ss id) name
+pub value_last : (ss : List Section) (id : List ℕ) (params : List Param) (name : List ℕ) → parameters_of ss id ≡ Ok params → value_of name params ≡ option_or (value_of name (reverse (set_by_rows ss id))) (value_of name (defaults_by_rows ss id))
+value_last ss id params name h = ap (value_of name) (answered ss id params h) ∙ value-params (strings_in ss) (rows_of ss id) name

@@ -6,6 +6,5 @@ pub mod Rows
 pub mod Parameters
 pub mod Repeats
 pub mod ByName
-pub mod Spelling
 pub mod Faults
 pub mod Earliest

@@ -49,10 +49,8 @@ unfoldable pub saying : Strings → Line → Saying
 saying strings line = row (replaced strings (value_at 0 line)) (replaced strings (value_at 1 line)) (replaced strings (value_at 2 line)) (replaced strings (value_at 3 line)) (replaced strings (value_at 4 line))
 
 abbrev pub bad_saying : Saying → Bool
-bad_saying Nothing = false
-bad_saying (Sets p) = false
-bad_saying (Defaults p) = false
 bad_saying Bad = true
+bad_saying _ = false
 
 -- a row whose number is none
 unfoldable pub is_bad : Strings → Line → Bool
@@ -69,16 +67,12 @@ with_default [] p = p ∷ []
 with_default (q ∷ qs) p = if is_same p.name q.name then q ∷ qs else q ∷ with_default qs p
 
 abbrev pub set_by : Saying → Option Param
-set_by Nothing = None
 set_by (Sets p) = Some p
-set_by (Defaults p) = None
-set_by Bad = None
+set_by _ = None
 
 abbrev pub default_by : Saying → Option Param
-default_by Nothing = None
-default_by (Sets p) = None
 default_by (Defaults p) = Some p
-default_by Bad = None
+default_by _ = None
 
 -- the default that a line gives
 abbrev pub given_default : Strings → Line → Option Param

@@ -12,60 +12,49 @@ use crate::lines::{directives_of, lines_read};
 use crate::models::{install_place, is_signed, model_of};
 use crate::param::{Param, ParamRefusal};
 use crate::reading::{first_lacking, rows_named};
+use crate::source::Source;
 use crate::strings::Strings;
 use inf_text::{Inf, Line};
 use std::alloc::Global;
 
 /// The parameters that rows give, or the first line that is wrong among those that are read.
-fn of_rows(
-    alloc: Global,
-    strings: &Strings,
-    read: &[&Line],
-    rows: &[&Line],
-) -> Result<Vec<Param>, ParamRefusal>
-    ensures { Gives ParamRefusal.OutOfMemory (λ v. v.items) result (of_rows (string_in strings.now) (map (λ l. l.now) read.now) (map (λ l. l.now) rows.now)) }
+fn of_rows(source: &Source, read: &[&Line], rows: &[&Line]) -> Result<Vec<Param>, ParamRefusal>
+    ensures { Gives ParamRefusal.OutOfMemory (λ v. v.items) result (of_rows (string_in source.now.strings.now) (map (λ l. l.now) read.now) (map (λ l. l.now) rows.now)) }
 {
-    match first_lacking(alloc, strings, read)? {
+    match first_lacking(source, read)? {
         Some(line) => Err(ParamRefusal::NoString(line.number())),
-        None => params_of(alloc, strings, rows),
+        None => params_of(source, rows),
     }
 }
 
 /// The same, where the rows are those of directives.
 fn of_directives(
-    inf: &Inf,
-    alloc: Global,
-    strings: &Strings,
+    source: &Source,
     makers: &[Line],
     model: &Line,
     directives: &[&Line],
 ) -> Result<Vec<Param>, ParamRefusal>
-    ensures { Gives ParamRefusal.OutOfMemory (λ v. v.items) result (of_directives (string_in strings.now) inf.now makers.now model.now (map (λ l. l.now) directives.now)) }
+    ensures { Gives ParamRefusal.OutOfMemory (λ v. v.items) result (of_directives (string_in source.now.strings.now) source.now.inf.now makers.now model.now (map (λ l. l.now) directives.now)) }
 {
-    let rows = rows_named(inf, alloc, strings, directives)?;
-    let read = lines_read(alloc, makers, model, directives, rows.as_slice())?;
-    of_rows(alloc, strings, read.as_slice(), rows.as_slice())
+    let rows = rows_named(source, directives)?;
+    let read = lines_read(source.alloc, makers, model, directives, rows.as_slice())?;
+    of_rows(source, read.as_slice(), rows.as_slice())
 }
 
 /// The parameters of a hardware id, where the signature is good.
-fn of_strings(
-    inf: &Inf,
-    alloc: Global,
-    strings: &Strings,
-    hardware_id: &[u16],
-) -> Result<Vec<Param>, ParamRefusal>
-    requires { string_in strings.now ≡ strings_in inf.now }
-    ensures { Gives ParamRefusal.OutOfMemory (λ v. v.items) result (answer inf.now (model_in inf.now hardware_id.now) (install_of inf.now hardware_id.now)) }
+fn of_strings(source: &Source, hardware_id: &[u16]) -> Result<Vec<Param>, ParamRefusal>
+    requires { string_in source.now.strings.now ≡ strings_in source.now.inf.now }
+    ensures { Gives ParamRefusal.OutOfMemory (λ v. v.items) result (answer source.now.inf.now (model_in source.now.inf.now hardware_id.now) (install_of source.now.inf.now hardware_id.now)) }
 {
-    let makers = inf.lines_named(b"Manufacturer");
-    let Some(model) = model_of(inf, alloc, strings, makers, hardware_id)? else {
+    let makers = source.inf.lines_named(b"Manufacturer");
+    let Some(model) = model_of(source, makers, hardware_id)? else {
         return Err(ParamRefusal::NoModel);
     };
-    let Some(install) = install_place(inf, alloc, strings, model)? else {
+    let Some(install) = install_place(source, model)? else {
         return Err(ParamRefusal::NoInstall);
     };
-    let directives = directives_of(alloc, inf.lines_at(install))?;
-    of_directives(inf, alloc, strings, makers, model, directives.as_slice())
+    let directives = directives_of(source.alloc, source.inf.lines_at(install))?;
+    of_directives(source, makers, model, directives.as_slice())
 }
 
 /// The parameters that an INF file gives a hardware id, in the order of their first rows, with the
@@ -80,5 +69,10 @@ pub fn parameters(inf: &Inf, alloc: Global, hardware_id: &[u16]) -> Result<Vec<P
         return Err(ParamRefusal::NoVersion);
     }
     let strings = Strings::of(alloc, inf.lines_named(b"Strings"))?;
-    of_strings(inf, alloc, &strings, hardware_id)
+    let source = Source {
+        inf,
+        strings: &strings,
+        alloc,
+    };
+    of_strings(&source, hardware_id)
 }

@@ -12,7 +12,7 @@ ghost use Rattle.nd_base.specs.Results.{Gives};
 use crate::lines::earlier;
 use crate::param::{Param, ParamRefusal, ParamValue};
 use crate::row::{Saying, read_row};
-use crate::strings::Strings;
+use crate::source::Source;
 use indexmap::IndexMap;
 use inf_text::{Line, Name};
 use nd_base::OutOfMemory;
@@ -119,16 +119,15 @@ impl Gathered {
     #[tactic(auto, unfolding(crate::specs::Rows::is_bad))]
     fn add_row<'a>(
         &mut self,
-        alloc: Global,
-        strings: &Strings,
+        source: &Source,
         bad: Option<&'a Line>,
         row: &'a Line,
     ) -> Result<Option<&'a Line>, OutOfMemory>
-        ensures set { OnOk result (self.new.set ≡ setting (string_in strings.now) self.old.set row.now) }
-        ensures defaults { OnOk result (self.new.defaults.items ≡ self.old.defaults.items ++ cons_option (given_default (string_in strings.now) row.now) []) }
-        ensures bad { IfOk result (λ l. option_copied l ≡ earlier_if (is_bad (string_in strings.now)) (option_copied bad.entry) row.now) }
+        ensures set { OnOk result (self.new.set ≡ setting (string_in source.now.strings.now) self.old.set row.now) }
+        ensures defaults { OnOk result (self.new.defaults.items ≡ self.old.defaults.items ++ cons_option (given_default (string_in source.now.strings.now) row.now) []) }
+        ensures bad { IfOk result (λ l. option_copied l ≡ earlier_if (is_bad (string_in source.now.strings.now)) (option_copied bad.entry) row.now) }
     {
-        let said = read_row(alloc, strings, row)?;
+        let said = read_row(source, row)?;
         let is_bad = is_bad(&said);
         self.add(said)?;
         if is_bad {
@@ -142,17 +141,16 @@ impl Gathered {
     #[tactic(auto, unfolding(crate::specs::Earliest::earliest))]
     fn add_rows<'a>(
         &mut self,
-        alloc: Global,
-        strings: &Strings,
+        source: &Source,
         rows: &[&'a Line],
     ) -> Result<Option<&'a Line>, OutOfMemory>
-        ensures set { OnOk result (self.new.set ≡ fold (setting (string_in strings.now)) self.old.set (map (λ l. l.now) rows.now)) }
-        ensures defaults { OnOk result (self.new.defaults.items ≡ self.old.defaults.items ++ filter_map (given_default (string_in strings.now)) (map (λ l. l.now) rows.now)) }
-        ensures bad { IfOk result (λ l. option_copied l ≡ earliest (is_bad (string_in strings.now)) (map (λ l. l.now) rows.now)) }
+        ensures set { OnOk result (self.new.set ≡ fold (setting (string_in source.now.strings.now)) self.old.set (map (λ l. l.now) rows.now)) }
+        ensures defaults { OnOk result (self.new.defaults.items ≡ self.old.defaults.items ++ filter_map (given_default (string_in source.now.strings.now)) (map (λ l. l.now) rows.now)) }
+        ensures bad { IfOk result (λ l. option_copied l ≡ earliest (is_bad (string_in source.now.strings.now)) (map (λ l. l.now) rows.now)) }
     {
         let mut bad: Option<&Line> = None;
         for row in rows {
-            bad = self.add_row(alloc, strings, bad, row)?;
+            bad = self.add_row(source, bad, row)?;
         }
         Ok(bad)
     }
@@ -172,19 +170,15 @@ impl Gathered {
 
 /// The parameters that rows give, or the first row whose number is none.
 #[tactic(auto, unfolding(crate::specs::Rows::params_of))]
-pub fn params_of(
-    alloc: Global,
-    strings: &Strings,
-    rows: &[&Line],
-) -> Result<Vec<Param>, ParamRefusal>
-    ensures { Gives ParamRefusal.OutOfMemory (λ v. v.items) result (unless_bad (earliest (is_bad (string_in strings.now)) (map (λ l. l.now) rows.now)) (params_of (string_in strings.now) (map (λ l. l.now) rows.now))) }
+pub fn params_of(source: &Source, rows: &[&Line]) -> Result<Vec<Param>, ParamRefusal>
+    ensures { Gives ParamRefusal.OutOfMemory (λ v. v.items) result (unless_bad (earliest (is_bad (string_in source.now.strings.now)) (map (λ l. l.now) rows.now)) (params_of (string_in source.now.strings.now) (map (λ l. l.now) rows.now))) }
 {
     let mut gathered = Gathered {
-        set: Params::empty(alloc),
-        defaults: Vec::new(alloc),
+        set: Params::empty(source.alloc),
+        defaults: Vec::new(source.alloc),
     };
-    match gathered.add_rows(alloc, strings, rows)? {
+    match gathered.add_rows(source, rows)? {
         Some(row) => Err(ParamRefusal::BadValue(row.number())),
-        None => Ok(gathered.into_list(alloc)?),
+        None => Ok(gathered.into_list(source.alloc)?),
     }
 }

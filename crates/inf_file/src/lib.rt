@@ -12,11 +12,12 @@ mod param;
 mod reading;
 mod repeats;
 mod row;
+mod source;
 mod strings;
 
 pub use answer::parameters;
 pub use laws::{
     each_name_comes_once, first_fault_is_named, first_model_is_taken, last_row_counts,
-    numbers_are_spelled, strings_are_replaced,
+    strings_are_replaced,
 };
 pub use param::{Param, ParamRefusal, ParamValue};

@@ -5,7 +5,8 @@ ghost use Rattle.std.specs.Option.{option_copied};
 ghost use Rattle.inf_file.specs.Earliest.{earlier};
 ghost use Rattle.inf_file.specs.Parameters.{lines_of_all, lines_read, directives_of, is_directive};
 
-use inf_text::{Inf, Line};
+use crate::source::Source;
+use inf_text::Line;
 use nd_base::OutOfMemory;
 use std::alloc::Global;
 
@@ -36,16 +37,12 @@ fn push_lines<'a>(found: &mut Vec<&'a Line>, lines: &'a [Line]) -> Result<(), Ou
 }
 
 /// The lines of the sections at these places, one section after the other.
-pub fn lines_of_all<'a>(
-    inf: &'a Inf,
-    alloc: Global,
-    places: &[usize],
-) -> Result<Vec<&'a Line>, OutOfMemory>
-    ensures { IfOk result (λ v. map (λ l. l.now) v.items ≡ lines_of_all inf.now places.now) }
+pub fn lines_of_all<'a>(source: &Source<'a>, places: &[usize]) -> Result<Vec<&'a Line>, OutOfMemory>
+    ensures { IfOk result (λ v. map (λ l. l.now) v.items ≡ lines_of_all source.now.inf.now places.now) }
 {
-    let mut found = Vec::new(alloc);
+    let mut found = Vec::new(source.alloc);
     for place in places {
-        push_lines(&mut found, inf.lines_at(*place))?;
+        push_lines(&mut found, source.inf.lines_at(*place))?;
     }
     Ok(found)
 }

@@ -8,14 +8,12 @@ ghost use Rattle.inf_text.specs.Names.{is_same};
 ghost use Rattle.inf_text.specs.Sections.{has_key, value_at, place_named};
 ghost use Rattle.inf_file.specs.Strings.{replaced};
 ghost use Rattle.inf_file.specs.Earliest.{earlier_if, earliest};
-ghost use Rattle.inf_file.specs.Repeats.{thinned};
-ghost use Rattle.inf_file.specs.Parameters.{lines_of_all};
 ghost use Rattle.inf_file.specs.Models.{is_good_signature, is_signed_by, is_signed, dotted, usual_names, first_place, is_nt_x86, decoration_place, decorated_place, models_place, has_id, model_of, install_place};
 
-use crate::lines::{earlier, lines_of_all};
-use crate::repeats::{push_place, thinned};
-use crate::strings::Strings;
-use inf_text::{Inf, Line, Name, is_same, is_word};
+use crate::lines::earlier;
+use crate::repeats::{lines_thinned, push_place};
+use crate::source::Source;
+use inf_text::{Line, Name, is_same, is_word};
 use nd_base::{OutOfMemory, Wide};
 use std::alloc::Global;
 
@@ -56,29 +54,28 @@ fn dotted(alloc: Global, name: &[u16], decoration: &[u16]) -> Result<Wide, OutOf
 
 /// The place of the section of a name with a decoration.
 fn decorated_section(
-    inf: &Inf,
-    alloc: Global,
+    source: &Source,
     name: &[u16],
     decoration: &[u16],
 ) -> Result<Option<usize>, OutOfMemory>
-    ensures { IfOk result (λ place. place ≡ place_named (dotted name.now decoration.now) inf.now) }
+    ensures { IfOk result (λ place. place ≡ place_named (dotted name.now decoration.now) source.now.inf.now) }
 {
-    let text = dotted(alloc, name, decoration)?;
-    Ok(inf.place(&Name::new(text)))
+    let text = dotted(source.alloc, name, decoration)?;
+    Ok(source.inf.place(&Name::new(text)))
 }
 
 /// The place of the closest section for i386 that exists of a name.
 #[tactic(auto, unfolding(crate::specs::Models::first_place, crate::specs::Models::usual_names))]
-fn usual_place(inf: &Inf, alloc: Global, name: Wide) -> Result<Option<usize>, OutOfMemory>
-    ensures { IfOk result (λ place. place ≡ first_place (usual_names name) inf.now) }
+fn usual_place(source: &Source, name: Wide) -> Result<Option<usize>, OutOfMemory>
+    ensures { IfOk result (λ place. place ≡ first_place (usual_names name) source.now.inf.now) }
 {
-    if let Some(place) = decorated_section(inf, alloc, name.as_slice(), &NT_X86)? {
+    if let Some(place) = decorated_section(source, name.as_slice(), &NT_X86)? {
         return Ok(Some(place));
     }
-    if let Some(place) = decorated_section(inf, alloc, name.as_slice(), &NT)? {
+    if let Some(place) = decorated_section(source, name.as_slice(), &NT)? {
         return Ok(Some(place));
     }
-    Ok(inf.place(&Name::new(name)))
+    Ok(source.inf.place(&Name::new(name)))
 }
 
 /// `NTx86`.
@@ -98,17 +95,15 @@ fn is_nt_x86(decoration: &[u16]) -> bool
 /// The place of the section of a name with a decoration that is meant for i386.
 #[tactic(auto, unfolding(crate::specs::Models::decoration_place))]
 fn decoration_place(
-    inf: &Inf,
-    alloc: Global,
-    strings: &Strings,
+    source: &Source,
     name: &[u16],
     decoration: &[u16],
 ) -> Result<Option<usize>, OutOfMemory>
-    ensures { IfOk result (λ place. place ≡ decoration_place (string_in strings.now) inf.now name.now decoration.now) }
+    ensures { IfOk result (λ place. place ≡ decoration_place (string_in source.now.strings.now) source.now.inf.now name.now decoration.now) }
 {
-    let text = strings.replaced(alloc, decoration)?;
+    let text = source.strings.replaced(source.alloc, decoration)?;
     if is_nt_x86(text.as_slice()) {
-        decorated_section(inf, alloc, name, text.as_slice())
+        decorated_section(source, name, text.as_slice())
     } else {
         Ok(None)
     }
@@ -116,16 +111,14 @@ fn decoration_place(
 
 /// The place of the first section that exists of a name with one of the decorations.
 fn decorated_place(
-    inf: &Inf,
-    alloc: Global,
-    strings: &Strings,
+    source: &Source,
     name: &[u16],
     decorations: &[Wide],
 ) -> Result<Option<usize>, OutOfMemory>
-    ensures { IfOk result (λ place. place ≡ decorated_place (string_in strings.now) inf.now name.now decorations.now) }
+    ensures { IfOk result (λ place. place ≡ decorated_place (string_in source.now.strings.now) source.now.inf.now name.now decorations.now) }
 {
     for value in decorations {
-        match decoration_place(inf, alloc, strings, name, value.as_slice())? {
+        match decoration_place(source, name, value.as_slice())? {
             Some(place) => return Ok(Some(place)),
             None => {}
         }
@@ -146,29 +139,24 @@ fn behind_first(values: &[Wide]) -> &[Wide]
 
 /// The place of the models section that a manufacturer's line leads to.
 #[tactic(auto, unfolding(crate::specs::Models::models_place))]
-fn models_place(
-    inf: &Inf,
-    alloc: Global,
-    strings: &Strings,
-    maker: &Line,
-) -> Result<Option<usize>, OutOfMemory>
-    ensures { IfOk result (λ place. place ≡ models_place (string_in strings.now) inf.now maker.now) }
+fn models_place(source: &Source, maker: &Line) -> Result<Option<usize>, OutOfMemory>
+    ensures { IfOk result (λ place. place ≡ models_place (string_in source.now.strings.now) source.now.inf.now maker.now) }
 {
-    let name = strings.value(alloc, maker, 0)?;
+    let name = source.strings.value(source.alloc, maker, 0)?;
     let decorations = behind_first(maker.values());
-    match decorated_place(inf, alloc, strings, name.as_slice(), decorations)? {
+    match decorated_place(source, name.as_slice(), decorations)? {
         Some(place) => Ok(Some(place)),
-        None => usual_place(inf, alloc, name),
+        None => usual_place(source, name),
     }
 }
 
 /// Whether a model line has the hardware id behind its install section.
 #[tactic(auto, unfolding(crate::specs::Models::has_id))]
-fn has_id(alloc: Global, strings: &Strings, id: &[u16], model: &Line) -> Result<bool, OutOfMemory>
-    ensures { IfOk result (λ b. b ≡ has_id (string_in strings.now) id.now model.now) }
+fn has_id(source: &Source, id: &[u16], model: &Line) -> Result<bool, OutOfMemory>
+    ensures { IfOk result (λ b. b ≡ has_id (string_in source.now.strings.now) id.now model.now) }
 {
     for value in behind_first(model.values()) {
-        let text = strings.replaced(alloc, value.as_slice())?;
+        let text = source.strings.replaced(source.alloc, value.as_slice())?;
         if is_same(id, text.as_slice()) {
             return Ok(true);
         }
@@ -178,15 +166,14 @@ fn has_id(alloc: Global, strings: &Strings, id: &[u16], model: &Line) -> Result<
 
 /// The earlier of two model lines, where the second has the hardware id.
 fn earlier_with_id<'a>(
-    alloc: Global,
-    strings: &Strings,
+    source: &Source,
     id: &[u16],
     best: Option<&'a Line>,
     line: &'a Line,
 ) -> Result<Option<&'a Line>, OutOfMemory>
-    ensures { IfOk result (λ l. option_copied l ≡ earlier_if (has_id (string_in strings.now) id.now) (option_copied best.entry) line.now) }
+    ensures { IfOk result (λ l. option_copied l ≡ earlier_if (has_id (string_in source.now.strings.now) id.now) (option_copied best.entry) line.now) }
 {
-    if has_id(alloc, strings, id, line)? {
+    if has_id(source, id, line)? {
         Ok(earlier(best, line))
     } else {
         Ok(best)
@@ -196,87 +183,49 @@ fn earlier_with_id<'a>(
 /// The first line of the file among those with the hardware id.
 #[tactic(auto, unfolding(crate::specs::Earliest::earliest))]
 fn first_with_id<'a>(
-    alloc: Global,
-    strings: &Strings,
+    source: &Source,
     id: &[u16],
     lines: &[&'a Line],
 ) -> Result<Option<&'a Line>, OutOfMemory>
-    ensures { IfOk result (λ l. option_copied l ≡ earliest (has_id (string_in strings.now) id.now) (map (λ l. l.now) lines.now)) }
+    ensures { IfOk result (λ l. option_copied l ≡ earliest (has_id (string_in source.now.strings.now) id.now) (map (λ l. l.now) lines.now)) }
 {
     let mut best: Option<&Line> = None;
     for line in lines {
-        best = earlier_with_id(alloc, strings, id, best, line)?;
+        best = earlier_with_id(source, id, best, line)?;
     }
     Ok(best)
 }
 
 /// The places of the models sections that manufacturers' lines lead to, in order.
-fn models_places(
-    inf: &Inf,
-    alloc: Global,
-    strings: &Strings,
-    makers: &[Line],
-) -> Result<Vec<usize>, OutOfMemory>
-    ensures { IfOk result (λ v. v.items ≡ filter_map (models_place (string_in strings.now) inf.now) makers.now) }
+fn models_places(source: &Source, makers: &[Line]) -> Result<Vec<usize>, OutOfMemory>
+    ensures { IfOk result (λ v. v.items ≡ filter_map (models_place (string_in source.now.strings.now) source.now.inf.now) makers.now) }
 {
-    let mut places = Vec::new(alloc);
+    let mut places = Vec::new(source.alloc);
     for maker in makers {
-        let place = models_place(inf, alloc, strings, maker)?;
+        let place = models_place(source, maker)?;
         push_place(&mut places, place)?;
     }
     Ok(places)
 }
 
-/// The same without those that come again.
-fn thinned_places(
-    inf: &Inf,
-    alloc: Global,
-    strings: &Strings,
-    makers: &[Line],
-) -> Result<Vec<usize>, OutOfMemory>
-    ensures { IfOk result (λ v. v.items ≡ thinned [] (filter_map (models_place (string_in strings.now) inf.now) makers.now)) }
-{
-    let places = models_places(inf, alloc, strings, makers)?;
-    thinned(alloc, places.as_slice())
-}
-
-/// The lines of these sections.
-fn models<'a>(
-    inf: &'a Inf,
-    alloc: Global,
-    strings: &Strings,
-    makers: &[Line],
-) -> Result<Vec<&'a Line>, OutOfMemory>
-    ensures { IfOk result (λ v. map (λ l. l.now) v.items ≡ lines_of_all inf.now (thinned [] (filter_map (models_place (string_in strings.now) inf.now) makers.now))) }
-{
-    let places = thinned_places(inf, alloc, strings, makers)?;
-    lines_of_all(inf, alloc, places.as_slice())
-}
-
 /// The first line of the file among the model lines with the hardware id.
 pub fn model_of<'a>(
-    inf: &'a Inf,
-    alloc: Global,
-    strings: &Strings,
+    source: &Source<'a>,
     makers: &[Line],
     id: &[u16],
 ) -> Result<Option<&'a Line>, OutOfMemory>
-    ensures { IfOk result (λ l. option_copied l ≡ model_of (string_in strings.now) inf.now makers.now id.now) }
+    ensures { IfOk result (λ l. option_copied l ≡ model_of (string_in source.now.strings.now) source.now.inf.now makers.now id.now) }
 {
-    let models = models(inf, alloc, strings, makers)?;
-    first_with_id(alloc, strings, id, models.as_slice())
+    let places = models_places(source, makers)?;
+    let models = lines_thinned(source, places.as_slice())?;
+    first_with_id(source, id, models.as_slice())
 }
 
 /// The place of the install section that a model line names.
 #[tactic(auto, unfolding(crate::specs::Models::install_place))]
-pub fn install_place(
-    inf: &Inf,
-    alloc: Global,
-    strings: &Strings,
-    model: &Line,
-) -> Result<Option<usize>, OutOfMemory>
-    ensures { IfOk result (λ place. place ≡ install_place (string_in strings.now) inf.now model.now) }
+pub fn install_place(source: &Source, model: &Line) -> Result<Option<usize>, OutOfMemory>
+    ensures { IfOk result (λ place. place ≡ install_place (string_in source.now.strings.now) source.now.inf.now model.now) }
 {
-    let name = strings.value(alloc, model, 0)?;
-    usual_place(inf, alloc, name)
+    let name = source.strings.value(source.alloc, model, 0)?;
+    usual_place(source, name)
 }

@@ -1,28 +1,26 @@
 //! Numbers in decimal and hexadecimal.
 
-ghost use Rattle.std.specs.Prelude.{◌≡◌, ◌^◌, ◌<◌, ◌≤◌};
-ghost use Rattle.inf_file.specs.Numbers.{digit_value, digits, number_of};
+ghost use Rattle.std.specs.Prelude.{◌≡◌, ◌<◌, ◌≤◌};
+ghost use Rattle.std.specs.Char.{digit_value};
+ghost use Rattle.std.specs.Option.{SomeIff};
+ghost use Rattle.inf_file.specs.Numbers.{digits, number_of};
 
-/// The value of a digit in either case, or 16.
-fn digit_value(unit: u16) -> u64
-    ensures { result ≡ digit_value unit }
+/// The value of a digit of a base, in either case.
+fn digit(base: u32, unit: u16) -> Option<u32>
+    requires least { 2 ≤ base }
+    requires most { base ≤ 16 }
+    ensures { SomeIff result (digit_value unit < base) (digit_value unit) }
 {
-    let unit = u64::from(unit);
-    if unit >= 48 && unit <= 57 {
-        unit - 48
-    } else if unit >= 97 && unit <= 102 {
-        unit - 87
-    } else if unit >= 65 && unit <= 70 {
-        unit - 55
-    } else {
-        16
+    match u8::try_from(unit) {
+        Ok(byte) => char::from(byte).to_digit(base),
+        Err(_) => None,
     }
 }
 
 /// The number below 2^32 that digits of a base stand for.
 #[tactic(auto, unfolding(crate::specs::Numbers::digits))]
-fn digits(base: u64, text: &[u16]) -> Option<u32>
-    requires least { 1 ≤ base }
+fn digits(base: u32, text: &[u16]) -> Option<u32>
+    requires least { 2 ≤ base }
     requires most { base ≤ 16 }
     ensures { result ≡ digits base text.now }
 {
@@ -31,11 +29,10 @@ fn digits(base: u64, text: &[u16]) -> Option<u32>
     }
     let mut value = 0u64;
     for unit in text {
-        let digit = digit_value(*unit);
-        if digit >= base {
+        let Some(digit) = digit(base, *unit) else {
             return None;
-        }
-        value = value * base + digit;
+        };
+        value = value * u64::from(base) + u64::from(digit);
         if value >= 0x1_0000_0000 {
             return None;
         }

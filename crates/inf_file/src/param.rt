@@ -4,7 +4,6 @@ ghost use Rattle.std.specs.Prelude.{◌≡◌};
 ghost use Rattle.inf_file.specs.declared.param.ParamRefusal.TheVariants.{OutOfMemory};
 
 use nd_base::Wide;
-use std::alloc::{AllocError, AllocFailed};
 use thiserror::Error;
 
 /// A parameter of a network adapter: its name, as it was first spelled, and its value.
@@ -49,22 +48,6 @@ impl From<nd_base::OutOfMemory> for ParamRefusal {
     ghost from_gives = { λ _ e. e ≡ OutOfMemory };
 
     fn from(_error: nd_base::OutOfMemory) -> ParamRefusal {
-        ParamRefusal::OutOfMemory
-    }
-}
-
-impl From<AllocError> for ParamRefusal {
-    ghost from_gives = { λ _ e. e ≡ OutOfMemory };
-
-    fn from(_error: AllocError) -> ParamRefusal {
-        ParamRefusal::OutOfMemory
-    }
-}
-
-impl<T: Drop> From<AllocFailed<T>> for ParamRefusal {
-    ghost from_gives = { λ _ e. e ≡ OutOfMemory };
-
-    fn from(_error: AllocFailed<T>) -> ParamRefusal {
         ParamRefusal::OutOfMemory
     }
 }

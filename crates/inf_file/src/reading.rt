@@ -9,38 +9,27 @@ ghost use Rattle.inf_file.specs.Earliest.{earlier_if, earliest};
 ghost use Rattle.inf_file.specs.Repeats.{thinned};
 ghost use Rattle.inf_file.specs.Parameters.{named_places, reg_places, lines_of_all};
 
-use crate::lines::{earlier, lines_of_all};
-use crate::repeats::{push_place, thinned};
-use crate::strings::Strings;
-use inf_text::{Inf, Line, Name};
+use crate::lines::earlier;
+use crate::repeats::{lines_thinned, push_place};
+use crate::source::Source;
+use inf_text::{Line, Name};
 use nd_base::{OutOfMemory, Wide};
 use std::alloc::Global;
 
 /// The place of the section that a value names.
-fn named_place(
-    inf: &Inf,
-    alloc: Global,
-    strings: &Strings,
-    value: &Wide,
-) -> Result<Option<usize>, OutOfMemory>
-    ensures { IfOk result (λ place. place ≡ place_named (replaced (string_in strings.now) value.now) inf.now) }
+fn named_place(source: &Source, value: &Wide) -> Result<Option<usize>, OutOfMemory>
+    ensures { IfOk result (λ place. place ≡ place_named (replaced (string_in source.now.strings.now) value.now) source.now.inf.now) }
 {
-    let name = strings.replaced(alloc, value.as_slice())?;
-    Ok(inf.place(&Name::new(name)))
+    let name = source.strings.replaced(source.alloc, value.as_slice())?;
+    Ok(source.inf.place(&Name::new(name)))
 }
 
 /// Puts the places of the sections that values name behind the last one.
-fn add_places(
-    inf: &Inf,
-    alloc: Global,
-    strings: &Strings,
-    places: &mut Vec<usize>,
-    values: &[Wide],
-) -> Result<(), OutOfMemory>
-    ensures { OnOk result (places.new.items ≡ places.old.items ++ named_places (string_in strings.now) inf.now values.now) }
+fn add_places(source: &Source, places: &mut Vec<usize>, values: &[Wide]) -> Result<(), OutOfMemory>
+    ensures { OnOk result (places.new.items ≡ places.old.items ++ named_places (string_in source.now.strings.now) source.now.inf.now values.now) }
 {
     for value in values {
-        let place = named_place(inf, alloc, strings, value)?;
+        let place = named_place(source, value)?;
         push_place(places, place)?;
     }
     Ok(())
@@ -48,57 +37,36 @@ fn add_places(
 
 /// The places of the add-registry sections that directives name, in order.
 #[tactic(auto, unfolding(crate::specs::Parameters::named_places))]
-fn reg_places(
-    inf: &Inf,
-    alloc: Global,
-    strings: &Strings,
-    directives: &[&Line],
-) -> Result<Vec<usize>, OutOfMemory>
-    ensures { IfOk result (λ v. v.items ≡ reg_places (string_in strings.now) inf.now (map (λ l. l.now) directives.now)) }
+fn reg_places(source: &Source, directives: &[&Line]) -> Result<Vec<usize>, OutOfMemory>
+    ensures { IfOk result (λ v. v.items ≡ reg_places (string_in source.now.strings.now) source.now.inf.now (map (λ l. l.now) directives.now)) }
 {
-    let mut places = Vec::new(alloc);
+    let mut places = Vec::new(source.alloc);
     for directive in directives {
-        add_places(inf, alloc, strings, &mut places, directive.values())?;
+        add_places(source, &mut places, directive.values())?;
     }
     Ok(places)
 }
 
-/// The places without those that say nothing new.
-fn thinned_places(
-    inf: &Inf,
-    alloc: Global,
-    strings: &Strings,
-    directives: &[&Line],
-) -> Result<Vec<usize>, OutOfMemory>
-    ensures { IfOk result (λ v. v.items ≡ thinned [] (reg_places (string_in strings.now) inf.now (map (λ l. l.now) directives.now))) }
-{
-    let places = reg_places(inf, alloc, strings, directives)?;
-    thinned(alloc, places.as_slice())
-}
-
 /// The rows of the sections that directives name, without those that say nothing new.
 pub fn rows_named<'a>(
-    inf: &'a Inf,
-    alloc: Global,
-    strings: &Strings,
+    source: &Source<'a>,
     directives: &[&Line],
 ) -> Result<Vec<&'a Line>, OutOfMemory>
-    ensures { IfOk result (λ v. map (λ l. l.now) v.items ≡ lines_of_all inf.now (thinned [] (reg_places (string_in strings.now) inf.now (map (λ l. l.now) directives.now)))) }
+    ensures { IfOk result (λ v. map (λ l. l.now) v.items ≡ lines_of_all source.now.inf.now (thinned [] (reg_places (string_in source.now.strings.now) source.now.inf.now (map (λ l. l.now) directives.now)))) }
 {
-    let places = thinned_places(inf, alloc, strings, directives)?;
-    lines_of_all(inf, alloc, places.as_slice())
+    let places = reg_places(source, directives)?;
+    lines_thinned(source, places.as_slice())
 }
 
 /// The earlier of two lines, where the second lacks a string.
 fn earlier_lacking<'a>(
-    alloc: Global,
-    strings: &Strings,
+    source: &Source,
     best: Option<&'a Line>,
     line: &'a Line,
 ) -> Result<Option<&'a Line>, OutOfMemory>
-    ensures { IfOk result (λ l. option_copied l ≡ earlier_if (line_lacks (string_in strings.now)) (option_copied best.entry) line.now) }
+    ensures { IfOk result (λ l. option_copied l ≡ earlier_if (line_lacks (string_in source.now.strings.now)) (option_copied best.entry) line.now) }
 {
-    if strings.line_lacks(alloc, line)? {
+    if source.strings.line_lacks(source.alloc, line)? {
         Ok(earlier(best, line))
     } else {
         Ok(best)
@@ -108,15 +76,14 @@ fn earlier_lacking<'a>(
 /// The first line of the file among those that lack a string.
 #[tactic(auto, unfolding(crate::specs::Earliest::earliest))]
 pub fn first_lacking<'a>(
-    alloc: Global,
-    strings: &Strings,
+    source: &Source,
     lines: &[&'a Line],
 ) -> Result<Option<&'a Line>, OutOfMemory>
-    ensures { IfOk result (λ l. option_copied l ≡ earliest (line_lacks (string_in strings.now)) (map (λ l. l.now) lines.now)) }
+    ensures { IfOk result (λ l. option_copied l ≡ earliest (line_lacks (string_in source.now.strings.now)) (map (λ l. l.now) lines.now)) }
 {
     let mut best: Option<&Line> = None;
     for line in lines {
-        best = earlier_lacking(alloc, strings, best, line)?;
+        best = earlier_lacking(source, best, line)?;
     }
     Ok(best)
 }

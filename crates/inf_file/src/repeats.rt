@@ -1,9 +1,13 @@
 //! Sections that are read more than once.
 
-ghost use Rattle.std.specs.Prelude.{◌≡◌, ℕ, ◌+◌, ◌<◌, false, [], length, drop, slice_index, slice_index_or, ◌++◌, IfOk, OnOk};
+ghost use Rattle.std.specs.Prelude.{◌≡◌, map, ℕ, ◌+◌, ◌<◌, false, [], length, drop, slice_index, slice_index_or, ◌++◌, IfOk, OnOk};
 ghost use Rattle.std.specs.List.{cons_option};
+ghost use Rattle.inf_file.specs.Parameters.{lines_of_all};
 ghost use Rattle.inf_file.specs.Repeats.{is_among, thinned};
 
+use crate::lines::lines_of_all;
+use crate::source::Source;
+use inf_text::Line;
 use nd_base::OutOfMemory;
 use std::alloc::Global;
 use std::collections::HashSet;
@@ -37,7 +41,7 @@ fn comes_again(alloc: Global, places: &[usize]) -> Result<Vec<bool>, OutOfMemory
 
 /// The places without those that stand before and come again behind, so that none is left more than
 /// twice.
-pub fn thinned(alloc: Global, places: &[usize]) -> Result<Vec<usize>, OutOfMemory>
+fn thinned(alloc: Global, places: &[usize]) -> Result<Vec<usize>, OutOfMemory>
     ensures { IfOk result (λ v. v.items ≡ thinned [] places.now) }
 {
     let again = comes_again(alloc, places)?;
@@ -50,4 +54,15 @@ pub fn thinned(alloc: Global, places: &[usize]) -> Result<Vec<usize>, OutOfMemor
         }
     }
     Ok(left)
+}
+
+/// The lines of the sections at these places, without those that say nothing new.
+pub fn lines_thinned<'a>(
+    source: &Source<'a>,
+    places: &[usize],
+) -> Result<Vec<&'a Line>, OutOfMemory>
+    ensures { IfOk result (λ v. map (λ l. l.now) v.items ≡ lines_of_all source.now.inf.now (thinned [] places.now)) }
+{
+    let places = thinned(source.alloc, places)?;
+    lines_of_all(source, places.as_slice())
 }

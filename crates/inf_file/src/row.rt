@@ -8,7 +8,7 @@ ghost use Rattle.inf_file.specs.Rows.{is_zero, params_key, driver_key_row, defau
 
 use crate::numbers::number_of;
 use crate::param::{Param, ParamValue};
-use crate::strings::Strings;
+use crate::source::Source;
 use inf_text::{Line, is_word};
 use nd_base::{OutOfMemory, Wide};
 use std::alloc::Global;
@@ -129,16 +129,16 @@ fn row(
 
 /// What a line says of the parameters.
 #[tactic(auto, unfolding(crate::specs::Rows::saying))]
-pub fn read_row(alloc: Global, strings: &Strings, line: &Line) -> Result<Saying, OutOfMemory>
-    ensures { IfOk result (λ s. s ≡ saying (string_in strings.now) line.now) }
+pub fn read_row(source: &Source, line: &Line) -> Result<Saying, OutOfMemory>
+    ensures { IfOk result (λ s. s ≡ saying (string_in source.now.strings.now) line.now) }
 {
-    let root = strings.value(alloc, line, 0)?;
-    let subkey = strings.value(alloc, line, 1)?;
-    let name = strings.value(alloc, line, 2)?;
-    let flags = strings.value(alloc, line, 3)?;
-    let value = strings.value(alloc, line, 4)?;
+    let root = source.strings.value(source.alloc, line, 0)?;
+    let subkey = source.strings.value(source.alloc, line, 1)?;
+    let name = source.strings.value(source.alloc, line, 2)?;
+    let flags = source.strings.value(source.alloc, line, 3)?;
+    let value = source.strings.value(source.alloc, line, 4)?;
     row(
-        alloc,
+        source.alloc,
         root.as_slice(),
         subkey.as_slice(),
         name,

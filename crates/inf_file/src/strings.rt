@@ -1,14 +1,14 @@
 //! The strings of an INF file, and their replacement.
 
 ghost use Rattle.std.specs.Prelude.{◌≡◌, ◌<◌, ◌≤◌, ◌++◌, ◌∷◌, [], length, MatchOption, IfOk, IfSome, OnOk};
-ghost use Rattle.std.specs.List.{position, slice_split, list_any, list_all};
+ghost use Rattle.std.specs.List.{slice_split, list_any, list_all};
 ghost use Rattle.std.specs.Option.{option_copied};
 ghost use Rattle.inf_file.specs.Keyed.{string_in, or_string};
 ghost use Rattle.inf_file.specs.Strings.{with_string, strings_of, is_percent, is_digit, meaning, replaced, is_missing, lacks_string, key_lacks, line_lacks};
 ghost use Rattle.inf_text.specs.Sections.{value_at};
 
 use indexmap::IndexMap;
-use inf_text::{Line, Name};
+use inf_text::{Line, Name, part_at};
 use nd_base::{OutOfMemory, Wide};
 use std::alloc::Global;
 use std::marker::Model;
@@ -42,31 +42,13 @@ fn is_number(key: &[u16]) -> bool
     key.iter().all(|unit| is_digit(*unit))
 }
 
-/// Where the first percent sign stands.
-fn percent(text: &[u16]) -> Option<usize>
-    ensures { result ≡ position is_percent text.now }
-{
-    text.iter().position(|unit| *unit == PERCENT)
-}
-
-/// What stands before the first percent sign, and behind it.
-fn at_percent(text: &[u16]) -> Option<(&[u16], &[u16])>
-    ensures cases { MatchOption result (slice_split is_percent text.now ≡ text.now ∷ []) (λ x. slice_split is_percent text.now ≡ x.0.now ∷ slice_split is_percent x.1.now) }
-    ensures shorter { IfSome result (λ x. length x.1.now < length text.now) }
-{
-    match percent(text) {
-        Some(place) => Some((&text[..place], &text[place + 1..])),
-        None => None,
-    }
-}
-
 /// What stands before the first two percent signs, between them and behind them.
 fn next_key(text: &[u16]) -> Option<(&[u16], &[u16], &[u16])>
     ensures cases { MatchOption result (length (slice_split is_percent text.now) ≤ 2) (λ x. slice_split is_percent text.now ≡ x.0.now ∷ (x.1.now ∷ slice_split is_percent x.2.now)) }
     ensures shorter { IfSome result (λ x. length x.2.now < length text.now) }
 {
-    match at_percent(text) {
-        Some((plain, rest)) => match at_percent(rest) {
+    match part_at(PERCENT, text) {
+        Some((plain, rest)) => match part_at(PERCENT, rest) {
             Some((key, behind)) => Some((plain, key, behind)),
             None => None,
         },

@@ -96,9 +96,9 @@ text_read : (r : Result (List ℕ) InfRefusal) (ss : List Section) → (r >>= λ
 text_read (Ok text) ss e = lines_differ (joined 1 1 [] (lines text)) ss e
 text_read (Err x) ss e = absurd (cc)
 
-pub sections-differ : (bytes : List ℕ) (ss : List Section) → sections_of bytes ≡ Ok ss → AllPairs (λ s t. is_same s.name t.name ≡ false) ss
+pub sections_differ : (bytes : List ℕ) (ss : List Section) → sections_of bytes ≡ Ok ss → AllPairs (λ s t. is_same s.name t.name ≡ false) ss
 unfolding sections_of
-sections-differ bytes ss h = elim (cases_Bool (ltb 1048576 (length bytes))) [
+sections_differ bytes ss h = elim (cases_Bool (ltb 1048576 (length bytes))) [
   | inl on ↦ let long : ◌≡◌ {A = Result (List Section) InfRefusal} (Err TooLong) (Ok ss) = rw on at h in absurd (cc)
   | inr off ↦ let short = rw off at h in pairs ss (text_read (characters bytes) ss short)
 ]

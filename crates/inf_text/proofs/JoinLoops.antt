@@ -1,37 +1,14 @@
 -- Lines, one after the other.
-use Rattle.std.proofs.Common.{◌≡◌, ℕ, suc, ◌+◌, ◌<◌, ◌≤◌, Bool, true, false, eqb, ltb, List, [], ◌∷◌, ◌++◌, length, take, drop, Some, None, refl, sym, ap, ◌∙◌, subst, inl, inr, arith, append_assoc, add-one}
-use Rattle.std.specs.List.{slice_split, onto_first, position, position_or_len}
+use Rattle.std.proofs.Common.{◌≡◌, ℕ, ◌+◌, ◌<◌, Bool, true, false, eqb, List, [], ◌∷◌, ◌++◌, length, refl, sym, ap, ◌∙◌, inl, inr, arith, append_assoc, add-one}
+use Rattle.std.specs.List.{slice_split, onto_first}
 use Rattle.std.specs.Str.Lines.{lines, lines_of_parts, strip_carriage_return}
-use Rattle.std.proofs.lemmas.List.Splits.{slice_split_first, slice_split-cons_no, slice_split-cons_yes}
+use Rattle.std.proofs.lemmas.List.Splits.{slice_split-cons_no, slice_split-cons_yes}
 use Rattle.std.proofs.lemmas.Bool.{cases_Bool}
 use Rattle.std.proofs.lemmas.Bool.Decides.{nat_tests}
-use Rattle.std.proofs.lemmas.Option.{cond_some}
 use Rattle.inf_text.specs.declared.joining.Joined.{Joined}
 use Rattle.inf_text.specs.Quotes.{is_open}
 use Rattle.inf_text.proofs.QuoteLoops.{open_append}
 use Rattle.inf_text.specs.Joining.{said, goes_on, kept, joined}
-
-whole : (p : ℕ → Bool) (bs : List ℕ) → length bs ≤ position_or_len p bs → slice_split p bs ≡ bs ∷ []
-whole p [] h = refl
-whole p (b ∷ bs) h = elim (cases_Bool (p b)) [
-  | inl on ↦ let k : suc (length bs) ≤ 0 = rw on at h in absurd (omega arith)
-  | inr off ↦ let k : suc (length bs) ≤ 1 + position_or_len p bs = rw off at h in slice_split-cons_no p b bs off ∙ ap (onto_first b) (whole p bs (omega arith))
-]
-
--- the parts, where the first that passes stands at i
-cut : (p : ℕ → Bool) (bs : List ℕ) (i : ℕ) → position p bs ≡ Some i → slice_split p bs ≡ take i bs ∷ slice_split p (drop (i + 1) bs)
-cut p bs i h =
-    let k = cond_some (ltb (position_or_len p bs) (length bs)) (position_or_len p bs) i h in
-    let at : position_or_len p bs ≡ i = k.1 in
-    let within : ltb (position_or_len p bs) (length bs) ≡ true = k.0 in
-    let lt : position_or_len p bs < length bs = grind (arith, nat_tests) in
-    subst (λ (n : ℕ). slice_split p bs ≡ take n bs ∷ slice_split p (drop (n + 1) bs)) at (slice_split_first p bs 0 lt)
-
-uncut : (p : ℕ → Bool) (bs : List ℕ) → position p bs ≡ None → slice_split p bs ≡ bs ∷ []
-uncut p bs h = elim (cases_Bool (ltb (position_or_len p bs) (length bs))) [
-  | inl on ↦ let k : Some (position_or_len p bs) ≡ None = rw on at h in absurd (cc)
-  | inr off ↦ let le : length bs ≤ position_or_len p bs = grind (arith, nat_tests) in whole p bs le
-]
 
 onto_more : (x : List ℕ) (b : ℕ) (parts : List (List ℕ)) → lines_of_parts (x ∷ onto_first b parts) ≡ strip_carriage_return x ∷ lines_of_parts (onto_first b parts)
 onto_more x b [] = refl
@@ -44,12 +21,11 @@ parts_more p x (b ∷ bs) = elim (cases_Bool (p b)) [
   | inr off ↦ rw (slice_split-cons_no p b bs off) (onto_more x b (slice_split p bs))
 ]
 
-pub line_some : (bs line rest : List ℕ) (i : ℕ) → position (λ b. eqb b 10) bs ≡ Some i → line ≡ strip_carriage_return (take i bs) → rest ≡ drop (i + 1) bs → lines bs ≡ line ∷ lines rest
-line_some bs line rest i h l r = ap lines_of_parts (cut (λ b. eqb b 10) bs i h) ∙ parts_more (λ b. eqb b 10) (take i bs) (drop (i + 1) bs) ∙ rw (l, r) refl
+pub line_some : (bs part line rest : List ℕ) → slice_split (λ b. eqb b 10) bs ≡ part ∷ slice_split (λ b. eqb b 10) rest → line ≡ strip_carriage_return part → lines bs ≡ line ∷ lines rest
+line_some bs part line rest h l = ap lines_of_parts h ∙ parts_more (λ b. eqb b 10) part rest ∙ rw l refl
 
-pub line_none : (bs : List ℕ) → 0 < length bs → position (λ b. eqb b 10) bs ≡ None → lines bs ≡ bs ∷ lines []
-line_none [] lt h = absurd (omega arith)
-line_none (b ∷ bs) lt h = let off : eqb (suc (length bs)) 0 ≡ false = search (arith, nat_tests) in ap lines_of_parts (uncut (λ b. eqb b 10) (b ∷ bs) h) ∙ rw off refl
+pub line_none : (bs : List ℕ) → 0 < length bs → slice_split (λ b. eqb b 10) bs ≡ bs ∷ [] → lines bs ≡ bs ∷ lines []
+line_none bs lt h = let off : eqb (length bs) 0 ≡ false = search (arith, nat_tests) in ap lines_of_parts h ∙ rw off refl
 
 pub joined_end : (first n : ℕ) (front bs : List ℕ) → length bs ≡ 0 → joined first n front (lines bs) ≡ record { number = first; text = front } ∷ []
 unfolding joined

@@ -3,9 +3,9 @@ use Rattle.std.proofs.Common.{◌≡◌, ℕ, suc, ◌+◌, ◌<◌, ◌≤◌, 
 use Rattle.std.specs.List.{onto_first}
 use Rattle.std.proofs.lemmas.Bool.{cases_Bool}
 use Rattle.std.proofs.lemmas.Bool.Decides.{nat_tests}
-use Rattle.std.proofs.lemmas.Option.{same_Some}
+use Rattle.std.proofs.lemmas.Option.{cond_some}
 use Rattle.std.proofs.lemmas.List.Sums.{fold-append}
-use Rattle.inf_text.specs.Quotes.{is_blank, turned, is_open, is_mark, front_len, trimmed_start, onto_rest, trimmed_end, stays, resolved_behind, cut, parts}
+use Rattle.inf_text.specs.Quotes.{is_blank, turned, is_open, is_mark, front_len, onto_rest, trimmed_end, stays, resolved_behind, cut, parts}
 use Rattle.inf_text.proofs.Slices.{from_here, none_left, up_to_here}
 
 pub open_append : (inside : Bool) (xs ys : List ℕ) → is_open inside (xs ++ ys) ≡ is_open (is_open inside xs) ys
@@ -23,19 +23,7 @@ pub front_end : (mark : ℕ) (inside : Bool) (cs : List ℕ) (i : ℕ) → lengt
 unfolding front_len
 front_end mark inside cs i h = ap (front_len mark inside) (none_left cs i h)
 
-pub start_on : (cs : List ℕ) (i : ℕ) → i < length cs → is_blank (get_or cs i 0) ≡ true → trimmed_start (drop i cs) ≡ trimmed_start (drop (i + 1) cs)
-unfolding trimmed_start
-start_on cs i h on = ap trimmed_start (from_here cs i h) ∙ rw on refl
-
-pub start_here : (cs : List ℕ) (i : ℕ) → i < length cs → is_blank (get_or cs i 0) ≡ false → trimmed_start (drop i cs) ≡ drop i cs
-unfolding trimmed_start
-start_here cs i h off = ap trimmed_start (from_here cs i h) ∙ (rw off (sym (from_here cs i h)))
-
-pub start_end : (cs : List ℕ) (i : ℕ) → length cs ≤ i → trimmed_start (drop i cs) ≡ drop i cs
-unfolding trimmed_start
-start_end cs i h = ap trimmed_start (none_left cs i h) ∙ sym (none_left cs i h)
-
-pub end_blank : (xs : List ℕ) (b : ℕ) → is_blank b ≡ true → trimmed_end (xs ++ b ∷ []) ≡ trimmed_end xs
+end_blank : (xs : List ℕ) (b : ℕ) → is_blank b ≡ true → trimmed_end (xs ++ b ∷ []) ≡ trimmed_end xs
 unfolding trimmed_end
 end_blank [] b on = rw on refl
 end_blank (x ∷ xs) b on = ap (onto_rest x) (end_blank xs b on)
@@ -44,7 +32,7 @@ onto_more : (x : ℕ) (xs : List ℕ) (c : ℕ) → onto_rest x (xs ++ c ∷ [])
 onto_more x [] c = refl
 onto_more x (y ∷ ys) c = refl
 
-pub end_other : (xs : List ℕ) (c : ℕ) → is_blank c ≡ false → trimmed_end (xs ++ c ∷ []) ≡ xs ++ c ∷ []
+end_other : (xs : List ℕ) (c : ℕ) → is_blank c ≡ false → trimmed_end (xs ++ c ∷ []) ≡ xs ++ c ∷ []
 unfolding trimmed_end
 end_other [] c off = rw off refl
 end_other (x ∷ xs) c off = ap (onto_rest x) (end_other xs c off) ∙ onto_more x xs c
@@ -92,28 +80,20 @@ parts_whole inside (c ∷ cs) h = elim (cases_Bool (is_mark 44 inside c)) [
   | inr off ↦ let k : suc (length cs) ≤ suc (front_len 44 (turned inside c) cs) = rw off at h in rw off (ap (onto_first c) (parts_whole (turned inside c) cs (omega arith)))
 ]
 
+-- what is cut off at the first mark
+cut_is : (mark : ℕ) (cs part behind : List ℕ) → cut mark cs ≡ Some (part, behind)
+    → (front_len mark false cs < length cs) × (take (front_len mark false cs) cs ≡ part) × (drop (front_len mark false cs + 1) cs ≡ behind)
+cut_is mark cs part behind h =
+    let k = cond_some (ltb (front_len mark false cs) (length cs)) (take (front_len mark false cs) cs, drop (front_len mark false cs + 1) cs) (part, behind) h in
+    let within : ltb (front_len mark false cs) (length cs) ≡ true = k.0 in
+    let lt : front_len mark false cs < length cs = grind (arith, nat_tests) in
+    (lt, ap (λ (x : List ℕ × List ℕ). x.0) k.1, ap (λ (x : List ℕ × List ℕ). x.1) k.1)
+
 pub parts_some : (cs part behind : List ℕ) → cut 44 cs ≡ Some (part, behind) → parts false cs ≡ part ∷ parts false behind
-parts_some cs part behind h = elim (cases_Bool (ltb (front_len 44 false cs) (length cs))) [
-  | inl on ↦
-      let k : ◌≡◌ {A = Option (List ℕ × List ℕ)} (Some (take (front_len 44 false cs) cs, drop (front_len 44 false cs + 1) cs)) (Some (part, behind)) = rw on at h in
-      let lt : front_len 44 false cs < length cs = grind (arith, nat_tests) in
-      let pair : ◌≡◌ {A = List ℕ × List ℕ} (take (front_len 44 false cs) cs, drop (front_len 44 false cs + 1) cs) (part, behind) = same_Some _ _ k in
-      let one : take (front_len 44 false cs) cs ≡ part = ap (λ (x : List ℕ × List ℕ). x.0) pair in
-      let two : drop (front_len 44 false cs + 1) cs ≡ behind = ap (λ (x : List ℕ × List ℕ). x.1) pair in
-      rw (parts_cut false cs lt, one, two) refl
-  | inr off ↦ let k : ◌≡◌ {A = Option (List ℕ × List ℕ)} None (Some (part, behind)) = rw off at h in absurd (cc)
-]
+parts_some cs part behind h = let r = cut_is 44 cs part behind h in rw (parts_cut false cs r.0, r.1, r.2) refl
 
 pub behind_len : (cs part behind : List ℕ) → cut 44 cs ≡ Some (part, behind) → length behind < length cs
-behind_len cs part behind h = elim (cases_Bool (ltb (front_len 44 false cs) (length cs))) [
-  | inl on ↦
-      let k : ◌≡◌ {A = Option (List ℕ × List ℕ)} (Some (take (front_len 44 false cs) cs, drop (front_len 44 false cs + 1) cs)) (Some (part, behind)) = rw on at h in
-      let lt : front_len 44 false cs < length cs = grind (arith, nat_tests) in
-      let pair : ◌≡◌ {A = List ℕ × List ℕ} (take (front_len 44 false cs) cs, drop (front_len 44 false cs + 1) cs) (part, behind) = same_Some _ _ k in
-      let two : drop (front_len 44 false cs + 1) cs ≡ behind = ap (λ (x : List ℕ × List ℕ). x.1) pair in
-      omega (arith, ap length two, length-drop (front_len 44 false cs + 1) cs)
-  | inr off ↦ let k : ◌≡◌ {A = Option (List ℕ × List ℕ)} None (Some (part, behind)) = rw off at h in absurd (cc)
-]
+behind_len cs part behind h = let r = cut_is 44 cs part behind h in omega (arith, r.0, ap length r.2, length-drop (front_len 44 false cs + 1) cs)
 
 pub parts_none : (cs : List ℕ) → cut 44 cs ≡ None → parts false cs ≡ cs ∷ []
 parts_none cs h = elim (cases_Bool (ltb (front_len 44 false cs) (length cs))) [

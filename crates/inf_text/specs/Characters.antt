@@ -1,6 +1,7 @@
 -- The characters of a file. Text that begins with the byte order mark FF FE is UTF-16, the low byte of each unit first
 -- (The Unicode Standard, chapter 3, "Unicode Encoding Forms"); of other text each byte is the character of that number.
-use Rattle.std.specs.Prelude.{ℕ, suc, ◌+◌, ◌*◌, ◌%◌, ◌≡◌, ◌≤◌, Bool, ◌&&◌, ◌||◌, ◌==◌, not, nat_lt, nat_le, List, [], ◌∷◌, length, drop, Option, Some, None, Result, Ok, Err, slice_index, if◌then◌else◌}
+use Rattle.std.specs.Prelude.{ℕ, suc, ◌+◌, ◌*◌, ◌%◌, ◌≡◌, ◌≤◌, Bool, ◌&&◌, ◌||◌, ◌==◌, not, List, [], ◌∷◌, length, drop, Option, Some, None, Result, Ok, Err, slice_index, if◌then◌else◌}
+use Rattle.std.specs.Char.Utf16.{is_high_surrogate, is_low_surrogate}
 use Rattle.std.specs.List.{position}
 use Rattle.inf_text.specs.declared.refusal.InfRefusal.{InfRefusal}
 use Rattle.inf_text.specs.declared.refusal.InfRefusal.TheVariants.{BadText}
@@ -11,16 +12,9 @@ units [] = []
 units (low ∷ []) = []
 units (low ∷ high ∷ bytes) = (low + 256 * high) ∷ units bytes
 
--- the two halves of a surrogate pair, D800 to DBFF and DC00 to DFFF
-abbrev pub is_high : ℕ → Bool
-is_high u = nat_le 0xd800 u && nat_lt u 0xdc00
-
-abbrev pub is_low : ℕ → Bool
-is_low u = nat_le 0xdc00 u && nat_lt u 0xe000
-
 -- a unit that no text has between these two: zero, or half of a pair without the other
 abbrev pub is_bad : ℕ → ℕ → ℕ → Bool
-is_bad before u after = (u == 0) || ((is_high u && not (is_low after)) || (is_low u && not (is_high before)))
+is_bad before u after = (u == 0) || ((is_high_surrogate u && not (is_low_surrogate after)) || (is_low_surrogate u && not (is_high_surrogate before)))
 
 abbrev pub one_on : Option ℕ → Option ℕ
 one_on None = None

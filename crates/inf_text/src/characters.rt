@@ -1,22 +1,23 @@
 //! The characters of a file.
 
 ghost use Rattle.std.specs.Prelude.{◌≡◌, ◌*◌, ◌<◌, ◌≤◌, ◌==◌, length, slice_index, IfOk, IfSome};
+ghost use Rattle.std.specs.Char.Utf16.{is_high_surrogate, is_low_surrogate};
 ghost use Rattle.std.specs.List.{position};
-ghost use Rattle.inf_text.specs.Characters.{units, is_bad, is_high, is_low, first_bad, has_mark, bad_behind, bad_byte, text_of};
+ghost use Rattle.inf_text.specs.Characters.{units, is_bad, first_bad, has_mark, bad_behind, bad_byte, text_of};
 
 use nd_base::OutOfMemory;
 use std::alloc::Global;
 
 /// The first half of a surrogate pair.
 fn is_high(unit: u16) -> bool
-    ensures { result ≡ is_high unit }
+    ensures { result ≡ is_high_surrogate unit }
 {
     (0xd800..0xdc00).contains(&unit)
 }
 
 /// The second half of a surrogate pair.
 fn is_low(unit: u16) -> bool
-    ensures { result ≡ is_low unit }
+    ensures { result ≡ is_low_surrogate unit }
 {
     (0xdc00..0xe000).contains(&unit)
 }

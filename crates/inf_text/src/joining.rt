@@ -1,16 +1,19 @@
 //! The lines of a file without their comments, joined where one goes on with the next.
 
-ghost use Rattle.std.specs.Prelude.{◌≡◌, ◌==◌, ◌∷◌, [], false, ℕ, ◌+◌, ◌<◌, length, IfOk};
-ghost use Rattle.std.specs.List.{position};
+ghost use Rattle.std.specs.Prelude.{◌≡◌, ◌∷◌, [], false, ℕ, ◌+◌, ◌<◌, length, IfOk};
 ghost use Rattle.std.specs.Str.Lines.{lines, strip_carriage_return};
 ghost use Rattle.inf_text.specs.Joining.{said, goes_on, kept, joined};
 
+use crate::parts::part_at;
 use crate::quotes::{front_len, is_open, trimmed_end};
 use nd_base::{OutOfMemory, Wide};
 use std::alloc::Global;
 
 /// The semicolon, which begins a comment.
 const SEMICOLON: u16 = 59;
+
+/// What ends a line.
+const LINE_FEED: u16 = 10;
 
 /// The backslash.
 const BACKSLASH: u16 = 92;
@@ -32,21 +35,14 @@ fn without_return(line: &[u16]) -> &[u16]
     line
 }
 
-/// Where the first line feed stands.
-fn line_end(text: &[u16]) -> Option<usize>
-    ensures { result ≡ position (λ c. c == 10) text.now }
-{
-    text.iter().position(|c| *c == 10)
-}
-
 /// The first line, and what is behind it.
 fn next_line(text: &[u16]) -> (&[u16], &[u16])
     requires { 0 < length text.now }
     ensures lines { lines text.now ≡ result.0.now ∷ lines result.1.now }
     ensures shorter { length result.1.now < length text.now }
 {
-    match line_end(text) {
-        Some(end) => (without_return(&text[..end]), &text[end + 1..]),
+    match part_at(LINE_FEED, text) {
+        Some((line, behind)) => (without_return(line), behind),
         None => (text, &[]),
     }
 }

@@ -9,6 +9,7 @@ ghost use Rattle.inf_text.specs.Layout.{Layout as LineLayout, laid_out, IsTextOf
 ghost use Rattle.inf_text.specs.declared.statement.Statement.{Statement as Said};
 
 /// No two sections of an INF file have one name.
+#[tactic(auto, using(crate::proofs::DistinctLaws::sections_differ))]
 pub fn each_section_comes_once()
     ensures { (bytes : List ℕ) (ss : List InfSection) → sections_of bytes ≡ Ok ss → AllPairs (λ s t. is_same s.name t.name ≡ false) ss }
 {}
@@ -23,6 +24,7 @@ pub fn laid_out_is_read()
 {}
 
 /// A section may stand in several pieces: it has the lines of each, in the order of the file.
+#[tactic(auto, using(crate::proofs::Pieces::pieces_are_gathered))]
 pub fn pieces_are_gathered()
     ensures { (pieces : List InfSection) → collected (pieces_said pieces) ≡ Ok (gathered [] pieces) }
 {}

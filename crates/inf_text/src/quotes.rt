@@ -62,14 +62,16 @@ pub fn front_len(mark: u16, mut inside: bool, chars: &[u16]) -> usize
 }
 
 /// The characters without the blanks in front.
-pub fn trimmed_start(chars: &[u16]) -> &[u16]
+#[tactic(auto, unfolding(crate::specs::Quotes::trimmed_start))]
+pub fn trimmed_start(mut chars: &[u16]) -> &[u16]
     ensures { result.now ≡ trimmed_start chars.now }
 {
-    let mut start = 0;
-    while start < chars.len() && is_blank(chars[start]) {
-        start += 1;
+    while let [first, rest @ ..] = chars
+        && is_blank(*first)
+    {
+        chars = rest;
     }
-    &chars[start..]
+    chars
 }
 
 /// The characters without the blanks at the end.

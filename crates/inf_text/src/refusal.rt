@@ -3,7 +3,6 @@
 ghost use Rattle.std.specs.Prelude.{◌≡◌};
 ghost use Rattle.inf_text.specs.declared.refusal.InfRefusal.TheVariants.{OutOfMemory};
 
-use std::alloc::{AllocError, AllocFailed};
 use thiserror::Error;
 
 /// Why an INF file is not read: the first fault. A fault of the text comes before one of a line.
@@ -29,22 +28,6 @@ impl From<nd_base::OutOfMemory> for InfRefusal {
     ghost from_gives = { λ _ e. e ≡ OutOfMemory };
 
     fn from(_error: nd_base::OutOfMemory) -> InfRefusal {
-        InfRefusal::OutOfMemory
-    }
-}
-
-impl From<AllocError> for InfRefusal {
-    ghost from_gives = { λ _ e. e ≡ OutOfMemory };
-
-    fn from(_error: AllocError) -> InfRefusal {
-        InfRefusal::OutOfMemory
-    }
-}
-
-impl<T: Drop> From<AllocFailed<T>> for InfRefusal {
-    ghost from_gives = { λ _ e. e ≡ OutOfMemory };
-
-    fn from(_error: AllocFailed<T>) -> InfRefusal {
         InfRefusal::OutOfMemory
     }
 }

@@ -12,8 +12,8 @@ use Rattle.inf_file.proofs.answer.of_directives.Goals as goal
 
 pub returns : goal.returns
 returns c =
-    let s = string_in c.args.strings.now in
-    let ss = c.args.inf.now in
+    let s = string_in c.args.source.now.strings.now in
+    let ss = c.args.source.now.inf.now in
     let now = λ (ls : List (Bor Line)). map (λ (l : Bor Line). l.now) ls in
     let ds = now c.args.directives.now in
     let places = reg_places s ss ds in

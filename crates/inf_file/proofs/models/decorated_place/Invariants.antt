@@ -4,4 +4,4 @@ use Rattle.inf_file.specs.Models.{decorated_place}
 use Rattle.inf_file.proofs.models.decorated_place.Given as goal
 
 abbrev pub invariant-loop-value : goal.invariant-loop-value
-invariant-loop-value l = decorated_place (string_in l.strings) l.inf l.name (drop l.value-index l.decorations) ≡ decorated_place (string_in l.strings) l.inf l.name l.decorations
+invariant-loop-value l = decorated_place (string_in l.source.strings.now) l.source.inf.now l.name (drop l.value-index l.decorations) ≡ decorated_place (string_in l.source.strings.now) l.source.inf.now l.name l.decorations

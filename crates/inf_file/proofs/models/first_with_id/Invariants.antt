@@ -7,4 +7,4 @@ use Rattle.inf_file.specs.Earliest.{earlier_if}
 use Rattle.inf_file.proofs.models.first_with_id.Given as goal
 
 abbrev pub invariant-loop-line : goal.invariant-loop-line
-invariant-loop-line l = option_copied l.best ≡ fold (earlier_if (has_id (string_in l.strings) l.id)) None (map (λ x. x.now) (take l.line-index l.lines))
+invariant-loop-line l = option_copied l.best ≡ fold (earlier_if (has_id (string_in l.source.strings.now) l.id)) None (map (λ x. x.now) (take l.line-index l.lines))

@@ -6,4 +6,4 @@ use Rattle.inf_file.specs.Strings.{replaced}
 use Rattle.inf_file.proofs.models.has_id.Given as goal
 
 abbrev pub invariant-loop-value : goal.invariant-loop-value
-invariant-loop-value l = list_any (λ value. is_same l.id (replaced (string_in l.strings) value)) (take l.value-index l.value-items) ≡ false
+invariant-loop-value l = list_any (λ value. is_same l.id (replaced (string_in l.source.strings.now) value)) (take l.value-index l.value-items) ≡ false

@@ -7,7 +7,7 @@ use Rattle.inf_file.proofs.models.models_places.Goals as goal
 
 pub loop-maker-preserved : goal.loop-maker-preserved
 loop-maker-preserved c =
-    let h = models_place (string_in c.args.strings.now) c.args.inf.now in
+    let h = models_place (string_in c.args.source.now.strings.now) c.args.source.now.inf.now in
     let x = c.maker-item.result in
     c.in_ok-push_place.ensures ∙ ap (λ (o : Option ℕ). c.loop-maker.places.items ++ cons_option o []) c.in_ok-place.ensures
     ∙ ap (λ (ps : List ℕ). ps ++ cons_option (h x) []) c.loop-maker.invariant

@@ -5,4 +5,4 @@ use Rattle.inf_file.specs.Models.{models_place}
 use Rattle.inf_file.proofs.models.models_places.Given as goal
 
 abbrev pub invariant-loop-maker : goal.invariant-loop-maker
-invariant-loop-maker l = l.places.items ≡ filter_map (models_place (string_in l.strings) l.inf) (take l.maker-index l.makers)
+invariant-loop-maker l = l.places.items ≡ filter_map (models_place (string_in l.source.strings.now) l.source.inf.now) (take l.maker-index l.makers)

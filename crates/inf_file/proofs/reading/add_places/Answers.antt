@@ -16,7 +16,7 @@ pub loop-value-preserved : goal.loop-value-preserved
 unfolding named_places
 loop-value-preserved c =
     let i = c.loop-value.value-index in
-    let f = λ (value : List ℕ). place_named (replaced (string_in c.args.strings.now) value) c.args.inf.now in
+    let f = λ (value : List ℕ). place_named (replaced (string_in c.args.source.now.strings.now) value) c.args.source.now.inf.now in
     let x = c.value-item.result in
     let values = c.args.values.now in
     c.in_ok-push_place.ensures ∙ ap (λ (o : Option ℕ). c.loop-value.places.items ++ cons_option o []) c.in_ok-place.ensures

@@ -7,4 +7,4 @@ use Rattle.inf_file.specs.Earliest.{earlier_if}
 use Rattle.inf_file.proofs.reading.first_lacking.Given as goal
 
 abbrev pub invariant-loop-line : goal.invariant-loop-line
-invariant-loop-line l = option_copied l.best ≡ fold (earlier_if (line_lacks (string_in l.strings))) None (map (λ x. x.now) (take l.line-index l.lines))
+invariant-loop-line l = option_copied l.best ≡ fold (earlier_if (line_lacks (string_in l.source.strings.now))) None (map (λ x. x.now) (take l.line-index l.lines))

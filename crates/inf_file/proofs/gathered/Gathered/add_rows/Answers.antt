@@ -10,7 +10,7 @@ use Rattle.inf_file.proofs.gathered.Gathered.add_rows.Goals as goal
 
 pub loop-row-preserved : goal.loop-row-preserved
 loop-row-preserved c =
-    let s = string_in c.args.strings.now in
+    let s = string_in c.args.source.now.strings.now in
     let now = λ (l : Bor Line). l.now in
     let rows = c.args.rows.now in
     let i = c.loop-row.row-index in

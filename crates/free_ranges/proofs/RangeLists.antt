@@ -2,8 +2,8 @@
 use Rattle.std.proofs.Common.{◌≡◌, ◌≢◌, ℕ, ◌+◌, ◌-◌, ◌^◌, ◌<◌, ◌≤◌, List, Option, Some, None, length, get_or, set, replicate, refl, sym, ap, ◌∙◌, subst, ⊎_elim, arith, length-set}
 use Rattle.std.proofs.lemmas.Bool.{cases_lt}
 use Rattle.std.proofs.lemmas.List.{get_or-set_same, get_or-set_other, get_or_past, get_or-replicate, length-replicate}
-use Rattle.free_ranges.specs.Tournament.{IsNotBelow}
-use Rattle.free_ranges.specs.Ranges.{AreRanges, AreKept, IsFit, Takes, Gives, AreTaken, AllFree}
+use Rattle.free_ranges.specs.Tournament.{IsNotBelow, IsFirstNotBelow}
+use Rattle.free_ranges.specs.Ranges.{AreRanges, AreKept, IsFit, IsFirstFit, AreInside, Takes, Gives, AreTaken, AllFree}
 use Rattle.free_ranges.proofs.RangeLemmas.{order, fit_lies_in_one, TakesUnits, GivesUnits, IsCut, cut_ranges, cut_takes, cut_ends, IsJoined, joined_ranges, joined_gives, joined_ends}
 
 zeros : (n i : ℕ) → get_or {A = ℕ} (replicate {A = ℕ} n 0) i 0 ≡ 0
@@ -228,3 +228,17 @@ module _ (lengths : List ℕ) (n : ℕ) (are : AreRanges (length lengths) (λ u.
   pub fit_found : (found : Option ℕ) → IsNotBelow lengths n found → IsFit (λ u. get_or lengths u 0) n found
   fit_found None h = none_fits h
   fit_found (Some u) h = fit_at u h.1
+
+  pub first_found : (found : Option ℕ) → IsFirstNotBelow lengths n found → IsFirstFit (λ u. get_or lengths u 0) n found
+  first_found None h = tt
+  first_found (Some unit) h = λ before less fits.
+      let lies = fit_lies_in_one (length lengths) (λ u. get_or lengths u 0) are n before some fits in
+      let u = lies.0 in
+      let from = lies.1 in
+      let to = lies.2 in
+      let short = h u (omega (arith, from, less)) in
+      omega (arith, from, to, short)
+
+-- only units of the row are free
+pub all_inside : (lengths : List ℕ) → AreRanges (length lengths) (λ u. get_or lengths u 0) → AreInside lengths
+all_inside lengths are k free = let from = free.from in let to = free.to in let h = are.inside free.first (omega arith) in omega (arith, to, h)

@@ -1,8 +1,9 @@
 -- The nodes of a tournament: after a leaf is written and the way to the root is mended, and on the way from the root to a leaf that is not below a bound.
 use Rattle.std.proofs.Common.{◌≡◌, ◌≢◌, ℕ, zero, suc, ◌+◌, ◌-◌, ◌*◌, ◌/◌, ◌^◌, ◌<◌, ◌≤◌, max, List, length, get_or, set, drop, replicate, None, Some, sym, ap, ◌∙◌, subst, ⊎_elim, arith, length-set}
+use Rattle.std.proofs.Math.Nat.{pow-suc, mul-le-mul_left}
 use Rattle.std.proofs.lemmas.Bool.{cases_lt}
 use Rattle.std.proofs.lemmas.List.{get_or-set_same, get_or-set_other, get_or-drop, get_or_past, get_or-replicate, length-replicate, length-drop, drop-replicate, drop-set-add, drop-set-lt}
-use Rattle.free_ranges.specs.Tournament.{IsTournament, IsTournamentBut, IsNotBelow}
+use Rattle.free_ranges.specs.Tournament.{IsTournament, IsTournamentBut, IsNotBelow, IsFirstNotBelow}
 
 -- a node has the greater number of its two children
 abbrev pub Wins : List ℕ → ℕ → Type 0
@@ -114,3 +115,81 @@ module _ (places : ℕ) (nodes : List ℕ) (is : IsTournament places nodes) wher
       let on : places + (node - places) ≡ node = omega arith in
       let read : get_or (drop places nodes) (node - places) 0 ≡ get_or nodes node 0 = get_or-drop places nodes (node - places) 0 ∙ ap (λ k. get_or nodes k 0) on in
       (omega (arith, size, size_dropped), omega (arith, read, won))
+
+-- ---- the first leaf, where all leaves are equally deep
+
+-- A node has so many leaves below it, its steps to them doubled that often. They are leaves, and each leaf in front of them is below the bound.
+pub record HasPassed (places : ℕ) (nodes : List ℕ) (bound node : ℕ) : Type 0 where
+  pub steps : ℕ
+  pub from : places ≤ node * 2 ^ steps
+  pub to : (node + 1) * 2 ^ steps ≤ 2 * places
+  pub passed : (leaf : ℕ) → places ≤ leaf → leaf < node * 2 ^ steps → get_or nodes leaf 0 < bound
+
+some_power : (e : ℕ) → 1 ≤ 2 ^ e
+some_power zero = omega arith
+some_power (suc e) = let h = some_power e in let p = pow-suc 2 e in omega (arith, h, p)
+
+pub at_root : (places k bound : ℕ) (nodes : List ℕ) → places ≡ 2 ^ k → HasPassed places nodes bound 1
+at_root places k bound nodes e = record { steps = k; from = omega (arith, e); to = omega (arith, e); passed = λ leaf from to. absurd (omega (arith, e, from, to)) }
+
+-- no leaf in front of one that was reached
+pub at_end : (places bound node : ℕ) (nodes : List ℕ) → HasPassed places nodes bound node → (leaf : ℕ) → places ≤ leaf → leaf < node → get_or nodes leaf 0 < bound
+at_end places bound node nodes has leaf from less = has.passed leaf from (let some = some_power has.steps in let h = mul-le-mul_left node some in omega (arith, h, less))
+
+module _ (places : ℕ) (nodes : List ℕ) (is : IsTournament places nodes) where
+  -- the leaves below a node are not above it
+  below_node : (e n leaf : ℕ) → 1 ≤ n → n * 2 ^ e ≤ leaf → leaf < (n + 1) * 2 ^ e → leaf < 2 * places → get_or nodes leaf 0 ≤ get_or nodes n 0
+  below_node zero n leaf some from to less = let e : leaf ≡ n = omega arith in let same : get_or nodes leaf 0 ≡ get_or nodes n 0 = ap (λ k. get_or nodes k 0) e in omega (arith, same)
+  below_node (suc e) n leaf some from to less =
+      let p = pow-suc 2 e in
+      let from_half : n * (2 ^ e * 2) ≤ leaf = subst (λ (q : ℕ). n * q ≤ leaf) p from in
+      let to_half : leaf < (n + 1) * (2 ^ e * 2) = subst (λ (q : ℕ). leaf < (n + 1) * q) p to in
+      let up = below_parent places nodes is leaf (halves n leaf (2 ^ e) some (some_power e) from_half) less in
+      let rest = below_node e n (leaf / 2) some (omega (arith, from_half)) (omega (arith, to_half)) (omega (arith, less)) in
+      omega (arith, up, rest)
+    where
+      halves : (n leaf power : ℕ) → 1 ≤ n → 1 ≤ power → n * (power * 2) ≤ leaf → 2 ≤ leaf
+      halves n leaf power some some_p from = let h = mul-le-mul_left n some_p in omega (arith, h, some, from)
+
+  -- one step down to the left passes no leaf
+  pub step_left : (bound node child : ℕ) → node < places → child ≡ 2 * node → HasPassed places nodes bound node → HasPassed places nodes bound child
+  step_left bound node child less child_is has = step has.steps has.from has.to has.passed
+    where
+      step : (e : ℕ) → places ≤ node * 2 ^ e → (node + 1) * 2 ^ e ≤ 2 * places → ((leaf : ℕ) → places ≤ leaf → leaf < node * 2 ^ e → get_or nodes leaf 0 < bound) → HasPassed places nodes bound child
+      step zero from to passed = absurd (omega (arith, from, less))
+      step (suc e) from to passed =
+          let p = pow-suc 2 e in
+          let from_half : places ≤ node * (2 ^ e * 2) = subst (λ (q : ℕ). places ≤ node * q) p from in
+          let to_half : (node + 1) * (2 ^ e * 2) ≤ 2 * places = subst (λ (q : ℕ). (node + 1) * q ≤ 2 * places) p to in
+          let same : child * 2 ^ e ≡ (2 * node) * 2 ^ e = ap (λ (n : ℕ). n * 2 ^ e) child_is in
+          record {
+            steps = e;
+            from = omega (arith, from_half, same);
+            to = omega (arith, to_half, same);
+            passed = λ leaf a b. passed leaf a (subst (λ (q : ℕ). leaf < node * q) (sym p) (omega (arith, b, same)));
+          }
+
+  -- one step down to the right passes the leaves below the left child, which is below the bound
+  pub step_right : (bound node child : ℕ) → 1 ≤ node → node < places → child ≡ 2 * node → get_or nodes child 0 < bound → HasPassed places nodes bound node → HasPassed places nodes bound (child + 1)
+  step_right bound node child some less child_is lost has = step has.steps has.from has.to has.passed
+    where
+      step : (e : ℕ) → places ≤ node * 2 ^ e → (node + 1) * 2 ^ e ≤ 2 * places → ((leaf : ℕ) → places ≤ leaf → leaf < node * 2 ^ e → get_or nodes leaf 0 < bound) → HasPassed places nodes bound (child + 1)
+      step zero from to passed = absurd (omega (arith, from, less))
+      step (suc e) from to passed =
+          let p = pow-suc 2 e in
+          let from_half : places ≤ node * (2 ^ e * 2) = subst (λ (q : ℕ). places ≤ node * q) p from in
+          let to_half : (node + 1) * (2 ^ e * 2) ≤ 2 * places = subst (λ (q : ℕ). (node + 1) * q ≤ 2 * places) p to in
+          let same : child * 2 ^ e ≡ (2 * node) * 2 ^ e = ap (λ (n : ℕ). n * 2 ^ e) child_is in
+          record {
+            steps = e;
+            from = omega (arith, from_half, same);
+            to = omega (arith, to_half, same);
+            passed = λ leaf a b. ⊎_elim (λ (old : leaf < node * (2 ^ e * 2)). passed leaf a (subst (λ (q : ℕ). leaf < node * q) (sym p) old))
+                (λ new. let below = below_node e child leaf (omega arith) (omega (arith, new, same)) b (omega (arith, b, to_half, same)) in omega (arith, below, lost)) (cases_lt leaf (node * (2 ^ e * 2)));
+          }
+
+pub first_place : (places bound node : ℕ) (nodes : List ℕ) → length nodes ≡ 2 * places → places ≤ node → HasPassed places nodes bound node → IsFirstNotBelow (drop places nodes) bound (Some (node - places))
+first_place places bound node nodes size from has before less =
+    let read = get_or-drop places nodes before 0 in
+    let h = at_end places bound node nodes has (places + before) (omega arith) (omega (arith, less, from)) in
+    omega (arith, read, h)

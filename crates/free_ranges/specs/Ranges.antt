@@ -47,6 +47,15 @@ abbrev pub IsFit : Lengths → ℕ → Option ℕ → Type 0
 IsFit lengths n None = (unit : ℕ) → Fits lengths n unit → ⊥
 IsFit lengths n (Some unit) = Fits lengths n unit × (n ≤ lengths unit)
 
+-- and from no unit in front of it on are n free
+abbrev pub IsFirstFit : Lengths → ℕ → Option ℕ → Type 0
+IsFirstFit lengths n None = Unit {0}
+IsFirstFit lengths n (Some unit) = (before : ℕ) → before < unit → Fits lengths n before → ⊥
+
+-- only units of the row are free
+abbrev pub AreInside : List ℕ → Type 0
+AreInside lengths = (k : ℕ) → IsFree (slice_index lengths) k → k < units lengths
+
 -- a row of so many units, and all are free
 pub record AllFree (count : ℕ) (lengths : List ℕ) : Type 0 where
   pub size : units lengths ≡ count

@@ -20,3 +20,8 @@ pub record IsTournamentBut (places : ℕ) (nodes : List ℕ) (hole : ℕ) : Type
 abbrev pub IsNotBelow : List ℕ → ℕ → Option ℕ → Type 0
 IsNotBelow numbers bound None = (place : ℕ) → place < length numbers → slice_index numbers place < bound
 IsNotBelow numbers bound (Some place) = (place < length numbers) × (bound ≤ slice_index numbers place)
+
+-- and no place in front of it has such a number
+abbrev pub IsFirstNotBelow : List ℕ → ℕ → Option ℕ → Type 0
+IsFirstNotBelow numbers bound None = Unit {0}
+IsFirstNotBelow numbers bound (Some place) = (before : ℕ) → before < place → slice_index numbers before < bound

@@ -1,7 +1,7 @@
 //! Free ranges of a row of units.
 
-ghost use Rattle.std.specs.Prelude.{◌≡◌, ◌≤◌, ◌<◌, ◌+◌, ◌^◌, slice_index, IfOk, MatchOption};
-ghost use Rattle.free_ranges.specs.Ranges.{IsFree, IsFit, Takes, Gives, AreTaken, AllFree, units};
+ghost use Rattle.std.specs.Prelude.{ℕ, ◌≡◌, ◌≤◌, ◌<◌, ◌+◌, ◌^◌, slice_index, IfOk, MatchOption};
+ghost use Rattle.free_ranges.specs.Ranges.{IsFit, IsFirstFit, AreInside, Takes, Gives, AreTaken, AllFree, units};
 
 use crate::tournament::Tournament;
 use std::alloc::{AllocError, Global};
@@ -41,16 +41,19 @@ impl FreeRanges {
         Ok(FreeRanges { lengths, ends })
     }
 
-    /// A unit from which on so many are free, where a free range begins.
+    /// A unit from which on so many are free, where a free range begins: in a row of 2^k units, the
+    /// first one.
     pub fn fit(&self, length: u32) -> Option<u32>
         requires { 0 < length }
-        ensures { IsFit (slice_index self.now) length result }
+        ensures fit { IsFit (slice_index self.now) length result }
+        ensures first { (k : ℕ) → units self.now ≡ 2 ^ k → IsFirstFit (slice_index self.now) length result }
+        ensures inside { AreInside self.now }
     {
         self.lengths.not_below(length)
     }
 
-    /// Takes units at the beginning of a free range.
-    fn take_at(&mut self, first: u32, length: u32)
+    /// Takes units at the beginning of a free range, where `fit` finds them.
+    pub fn take_at(&mut self, first: u32, length: u32)
         requires some { 0 < length }
         requires free { length ≤ slice_index self.old first }
         ensures { Takes self.old self.new first length }

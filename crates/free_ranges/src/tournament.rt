@@ -1,8 +1,8 @@
 //! Numbers at places: a place whose number is not below a bound is found in as many steps as the
 //! places can be halved.
 
-ghost use Rattle.std.specs.Prelude.{◌≡◌, ◌<◌, ◌≤◌, ◌^◌, ◌*◌, ◌/◌, drop, slice_set, slice_index, replicate, IfOk};
-ghost use Rattle.free_ranges.specs.Tournament.{IsTournament, IsTournamentBut, IsNotBelow};
+ghost use Rattle.std.specs.Prelude.{◌≡◌, ◌<◌, ◌≤◌, ◌^◌, ◌*◌, ◌/◌, ℕ, length, drop, slice_set, slice_index, replicate, IfOk};
+ghost use Rattle.free_ranges.specs.Tournament.{IsTournament, IsTournamentBut, IsNotBelow, IsFirstNotBelow};
 
 use std::alloc::{AllocError, Global};
 use std::marker::Model;
@@ -62,9 +62,10 @@ impl Tournament {
         mend(&mut self.nodes, self.places, leaf);
     }
 
-    /// A place whose number is not below a bound.
+    /// A place whose number is not below a bound: where there are 2^k places, the first one.
     pub(crate) fn not_below(&self, bound: u32) -> Option<u32>
-        ensures { IsNotBelow self.now bound result }
+        ensures found { IsNotBelow self.now bound result }
+        ensures first { (k : ℕ) → length self.now ≡ 2 ^ k → IsFirstNotBelow self.now bound result }
     {
         if self.nodes[1] < bound {
             return None;
@@ -88,13 +89,15 @@ fn mend(nodes: &mut [u32], places: usize, leaf: usize)
     }
 }
 
-/// A leaf whose number is not below a bound, where that of the root is not.
+/// A leaf whose number is not below a bound, where that of the root is not: where all leaves are
+/// equally deep, the first one.
 fn leaf_not_below(nodes: &[u32], places: usize, bound: u32) -> usize
     requires tournament { IsTournament places nodes.now }
     requires root { bound ≤ slice_index nodes.now 1 }
     ensures leaf { places ≤ result }
     ensures inside { result < 2 * places }
     ensures won { bound ≤ slice_index nodes.now result }
+    ensures first { (k : ℕ) → places ≡ 2 ^ k → (leaf : ℕ) → places ≤ leaf → leaf < result → slice_index nodes.now leaf < bound }
 {
     let mut node = 1;
     while node < places {

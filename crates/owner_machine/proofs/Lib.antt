@@ -1,0 +1,9 @@
+pub mod Bools
+pub mod Changed
+pub mod PacketLaw
+pub mod NumberLaw
+pub mod LoanLaw
+pub mod RequestLaw
+pub mod Overlap
+pub mod StopLaw
+pub mod TailLaw

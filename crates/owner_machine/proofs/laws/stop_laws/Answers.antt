@@ -1,0 +1,12 @@
+use Rattle.std.proofs.Common.{refl}
+use Rattle.owner_machine.specs.Legal.{start}
+use Rattle.owner_machine.proofs.StopLaw.{still_now, quiet}
+use Rattle.owner_machine.proofs.TailLaw.{tail_falls, tail_ends}
+use Rattle.owner_machine.proofs.laws.stop_laws.Goals as goal
+
+pub returns : goal.returns
+returns _ = record {
+  quiet = λ adapters drivers log o a e legal h st. quiet o e a h (still_now (start adapters drivers) o log a legal (λ s. (refl, refl))) st;
+  falls = tail_falls;
+  ends = tail_ends;
+}

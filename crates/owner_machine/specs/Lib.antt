@@ -1,0 +1,11 @@
+pub mod State
+pub mod Contexts
+pub mod Packets
+pub mod Loans
+pub mod Requests
+pub mod Handlers
+pub mod Adapters
+pub mod Must
+pub mod Machine
+pub mod Legal
+pub mod Laws

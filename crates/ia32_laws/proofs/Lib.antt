@@ -1,3 +1,4 @@
 pub mod Shifts
 pub mod Quotients
 pub mod Stack
+pub mod Copies

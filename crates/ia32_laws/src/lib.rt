@@ -4,8 +4,10 @@
 
 ghost use Rattle.ia32_laws.specs.Numbers.{ShiftLaws, DivideLaws};
 ghost use Rattle.ia32_laws.specs.Programs.{StackLaws};
+ghost use Rattle.ia32_laws.specs.Copies.{CopyLaws};
 
-use nd_mem::{fault_laws, read_laws};
+use ia32_step::each_step_is_as_spelled;
+use nd_mem::{fault_laws, fetch_laws, read_laws, write_laws};
 
 /// Shifts by a count are shifts by 1, and rotates to both sides give a number back.
 pub fn shift_laws()
@@ -23,4 +25,15 @@ pub fn stack_laws()
 {
     fault_laws();
     read_laws();
+}
+
+/// REP MOVS copies.
+pub fn copy_laws()
+    ensures { CopyLaws }
+{
+    each_step_is_as_spelled();
+    fault_laws();
+    fetch_laws();
+    read_laws();
+    write_laws();
 }

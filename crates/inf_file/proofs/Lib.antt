@@ -1,14 +1,6 @@
-pub mod StringLemmas
-pub mod StringLaws
-pub mod ModelLemmas
-pub mod ParamLemmas
 pub mod ListLemmas
-pub mod RepeatLemmas
 pub mod RepeatFolds
-pub mod RepeatLaws
-pub mod SetLaws
-pub mod ParameterLemmas
+pub mod StringLaws
 pub mod AnswerLaws
-pub mod NameLaws
-pub mod EarliestLaws
-pub mod ValueLaws
+pub mod ParamLists
+pub mod ParamLaws

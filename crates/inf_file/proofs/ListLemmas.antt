@@ -1,6 +1,7 @@
 -- One element more, and folds over parts of a list.
-use Rattle.std.proofs.Common.{◌≡◌, ℕ, ◌+◌, ◌<◌, List, [], ◌∷◌, ◌++◌, length, map, take, get_or, Option, refl, sym, ap, ◌∙◌}
+use Rattle.std.proofs.Common.{◌≡◌, ℕ, ◌+◌, ◌<◌, List, [], ◌∷◌, ◌++◌, length, map, take, get_or, Option, None, Some, refl, sym, ap, ◌∙◌}
 use Rattle.std.specs.List.{fold, flat_map, filter_map, cons_option}
+use Rattle.std.specs.Option.{option_or}
 use Rattle.std.proofs.lemmas.List.{take_more, map-append}
 use Rattle.std.proofs.lemmas.List.Sums.{fold-append}
 use Rattle.std.proofs.lemmas.List.Elements.{filter_map-append}
@@ -8,9 +9,6 @@ use Rattle.std.proofs.lemmas.List.Concat.{flat_map-cons}
 
 pub take_item : {A : Type 0} (xs : List A) (i : ℕ) (x : A) → i < length xs → x ≡ get_or xs i x → take (i + 1) xs ≡ take i xs ++ x ∷ []
 take_item xs i x lt e = take_more xs i x lt ∙ ap (λ y. take i xs ++ y ∷ []) (sym e)
-
-pub fold-more : {A B : Type 0} (f : B → A → B) (a : B) (xs : List A) (i : ℕ) (x : A) → i < length xs → x ≡ get_or xs i x → fold f a (take (i + 1) xs) ≡ f (fold f a (take i xs)) x
-fold-more f a xs i x lt e = ap (fold f a) (take_item xs i x lt e) ∙ fold-append f a (take i xs) (x ∷ [])
 
 pub filter_map-more : {A B : Type 0} (g : A → Option B) (xs : List A) (i : ℕ) (x : A) → i < length xs → x ≡ get_or xs i x → filter_map g (take (i + 1) xs) ≡ filter_map g (take i xs) ++ cons_option (g x) []
 filter_map-more g xs i x lt e = ap (filter_map g) (take_item xs i x lt e) ∙ filter_map-append g (take i xs) (x ∷ [])
@@ -35,3 +33,13 @@ fold-mapped f now a xs i x lt e = ap (fold f a) (map-more now xs i x lt e) ∙ f
 
 pub filter_map-mapped : {P A B : Type 0} (g : A → Option B) (now : P → A) (xs : List P) (i : ℕ) (x : P) → i < length xs → x ≡ get_or xs i x → filter_map g (map now (take (i + 1) xs)) ≡ filter_map g (map now (take i xs)) ++ cons_option (g (now x)) []
 filter_map-mapped g now xs i x lt e = ap (filter_map g) (map-more now xs i x lt e) ∙ filter_map-append g (map now (take i xs)) (now x ∷ [])
+
+-- ---- values that may be absent
+
+pub or_none : {A : Type 0} (o : Option A) → option_or o None ≡ o
+or_none None = refl
+or_none (Some x) = refl
+
+pub or_assoc : {A : Type 0} (u v w : Option A) → option_or (option_or u v) w ≡ option_or u (option_or v w)
+or_assoc None v w = refl
+or_assoc (Some x) v w = refl

@@ -6,5 +6,4 @@ pub mod Rows
 pub mod Parameters
 pub mod Repeats
 pub mod ByName
-pub mod Faults
 pub mod Earliest

@@ -1,12 +1,12 @@
--- Sections that an INF file names more than once (Windows Driver Kit, "INF AddReg Directive", "INF Manufacturer Section"): a reading
--- changes nothing where the same section is read before and again behind.
-use Rattle.std.specs.Prelude.{ℕ, Bool, ◌&&◌, nat_eq, List, [], ◌∷◌, ◌++◌, if◌then◌else◌}
-use Rattle.std.specs.List.{list_any}
+-- Sections that an INF file names more than once (Windows Driver Kit, "INF AddReg Directive", "INF Manufacturer Section"). The words for
+-- keys that are put into a set one after the other are indexmap's.
+use Rattle.std.specs.Prelude.{ℕ, nat_eq, ◌==◌, List, [], ◌++◌, length, reverse, if◌then◌else◌}
+use Rattle.indexmap.specs.IndexSet.{insert_all}
 
-abbrev pub is_among : ℕ → List ℕ → Bool
-is_among place places = list_any (nat_eq place) places
+-- each place once, where it stands first
+abbrev pub once : List ℕ → List ℕ
+once places = insert_all nat_eq [] places
 
--- places behind others, without those that stand before and come again
-unfoldable pub thinned : List ℕ → List ℕ → List ℕ
-thinned before [] = []
-thinned before (p ∷ ps) = if is_among p before && is_among p ps then thinned (before ++ p ∷ []) ps else p ∷ thinned (before ++ p ∷ []) ps
+-- where places come again, each as it stands first, and behind them each as it stands last
+abbrev pub thinned : List ℕ → List ℕ
+thinned places = if length (once places) == length places then places else once places ++ reverse (once (reverse places))

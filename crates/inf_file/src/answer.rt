@@ -4,7 +4,7 @@ ghost use Rattle.std.specs.Prelude.{codes, ◌≡◌, true, map};
 ghost use Rattle.inf_file.specs.Keyed.{string_in};
 ghost use Rattle.inf_text.specs.Sections.{lines_named};
 ghost use Rattle.inf_file.specs.Models.{is_signed};
-ghost use Rattle.inf_file.specs.Parameters.{strings_in, model_in, install_of, answer, of_rows, of_directives, parameters_of};
+ghost use Rattle.inf_file.specs.Parameters.{strings_in, model_in, install_of, answer, lines_read, of_rows, of_directives, parameters_of};
 ghost use Rattle.nd_base.specs.Results.{Gives};
 
 use crate::gathered::params_of;
@@ -18,10 +18,17 @@ use inf_text::{Inf, Line};
 use std::alloc::Global;
 
 /// The parameters that rows give, or the first line that is wrong among those that are read.
-fn of_rows(source: &Source, read: &[&Line], rows: &[&Line]) -> Result<Vec<Param>, ParamRefusal>
-    ensures { Gives ParamRefusal.OutOfMemory (λ v. v.items) result (of_rows (string_in source.now.strings.now) (map (λ l. l.now) read.now) (map (λ l. l.now) rows.now)) }
+fn of_rows(
+    source: &Source,
+    makers: &[Line],
+    model: &Line,
+    directives: &[&Line],
+    rows: &[&Line],
+) -> Result<Vec<Param>, ParamRefusal>
+    ensures { Gives ParamRefusal.OutOfMemory (λ v. v.items) result (of_rows (string_in source.now.strings.now) (lines_read makers.now model.now (map (λ l. l.now) directives.now) (map (λ l. l.now) rows.now)) (map (λ l. l.now) rows.now)) }
 {
-    match first_lacking(source, read)? {
+    let read = lines_read(source.alloc, makers, model, directives, rows)?;
+    match first_lacking(source, read.as_slice())? {
         Some(line) => Err(ParamRefusal::NoString(line.number())),
         None => params_of(source, rows),
     }
@@ -37,8 +44,7 @@ fn of_directives(
     ensures { Gives ParamRefusal.OutOfMemory (λ v. v.items) result (of_directives (string_in source.now.strings.now) source.now.inf.now makers.now model.now (map (λ l. l.now) directives.now)) }
 {
     let rows = rows_named(source, directives)?;
-    let read = lines_read(source.alloc, makers, model, directives, rows.as_slice())?;
-    of_rows(source, read.as_slice(), rows.as_slice())
+    of_rows(source, makers, model, directives, rows.as_slice())
 }
 
 /// The parameters of a hardware id, where the signature is good.

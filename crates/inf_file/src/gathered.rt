@@ -9,7 +9,7 @@ ghost use Rattle.inf_file.specs.Rows.{with_param, with_default, set_by, default_
 ghost use Rattle.inf_file.specs.Parameters.{unless_bad};
 ghost use Rattle.nd_base.specs.Results.{Gives};
 
-use crate::lines::earlier;
+use crate::lines::earlier_if;
 use crate::param::{Param, ParamRefusal, ParamValue};
 use crate::row::{Saying, read_row};
 use crate::source::Source;
@@ -89,29 +89,24 @@ struct Gathered {
     defaults: Vec<Param>,
 }
 
-/// Whether a row's number is none.
-fn is_bad(said: &Saying) -> bool
-    ensures { result ≡ bad_saying said.now }
-{
-    match said {
-        Saying::Bad => true,
-        _ => false,
-    }
-}
-
 impl Gathered {
-    /// What a row says is put to what those before it said.
-    fn add(&mut self, said: Saying) -> Result<(), OutOfMemory>
+    /// What a row says is put to what those before it said. Gives whether its number is none.
+    fn add(&mut self, said: Saying) -> Result<bool, OutOfMemory>
+        ensures bad { IfOk result (λ b. b ≡ bad_saying said) }
         ensures set { OnOk result (self.new.set ≡ set_some self.old.set (set_by said)) }
         ensures defaults { OnOk result (self.new.defaults.items ≡ self.old.defaults.items ++ cons_option (default_by said) []) }
     {
         match said {
-            Saying::Sets(param) => self.set.set(param),
+            Saying::Sets(param) => {
+                self.set.set(param)?;
+                Ok(false)
+            }
             Saying::Defaults(param) => {
                 self.defaults.push(param)?;
-                Ok(())
+                Ok(false)
             }
-            _ => Ok(()),
+            Saying::Nothing => Ok(false),
+            Saying::Bad => Ok(true),
         }
     }
 
@@ -128,13 +123,7 @@ impl Gathered {
         ensures bad { IfOk result (λ l. option_copied l ≡ earlier_if (is_bad (string_in source.now.strings.now)) (option_copied bad.entry) row.now) }
     {
         let said = read_row(source, row)?;
-        let is_bad = is_bad(&said);
-        self.add(said)?;
-        if is_bad {
-            Ok(earlier(bad, row))
-        } else {
-            Ok(bad)
-        }
+        Ok(earlier_if(self.add(said)?, bad, row))
     }
 
     /// Takes rows. Gives the first whose number is none.

@@ -1,29 +1,28 @@
 //! What holds of the parameters that a file gives, whatever order its checks have.
 
-ghost use Rattle.std.specs.Prelude.{ℕ, List, Ok, Err, ◌≡◌, ◌++◌, ◌∷◌, AllPairs, false, map, reverse};
+ghost use Rattle.std.specs.Prelude.{ℕ, List, Ok, Err, ◌≡◌, ◌++◌, ◌∷◌, map, reverse};
 ghost use Rattle.std.specs.Option.{option_map, option_or};
-ghost use Rattle.std.specs.List.{find};
+ghost use Rattle.std.specs.List.{find, IsDistinct};
 ghost use Rattle.inf_text.specs.Names.{is_same};
 ghost use Rattle.inf_text.specs.Sections.{Line as InfLine, Section as InfSection, has_key, value_at};
 ghost use Rattle.inf_file.specs.Strings.{Strings, HasNoPercent, meaning, replaced, strings_of};
 ghost use Rattle.inf_file.specs.Parameters.{model_in, parameters_of};
-ghost use Rattle.inf_file.specs.ByName.{models_in, lists_id, set_by_rows, defaults_by_rows, names, each_once, value_of};
+ghost use Rattle.inf_file.specs.ByName.{models_in, lists_id, set_by_rows, defaults_by_rows, names, each_once, value_of, LacksNone, FirstLacking, BadNone, FirstBad};
 ghost use Rattle.inf_file.specs.Earliest.{IsFirst};
-ghost use Rattle.inf_file.specs.Faults.{LacksNone, FirstLacking, BadNone, FirstBad};
 ghost use Rattle.inf_file.specs.declared.param.Param.{Param as Parameter};
 ghost use Rattle.inf_file.specs.declared.param.ParamRefusal.TheVariants.{NoString, BadValue};
 
 /// No two parameters have one name. Their names are those that rows set, in the order of their
 /// first rows, and behind them those that have only defaults.
-#[tactic(auto, using(crate::proofs::NameLaws::names_differ, crate::proofs::NameLaws::names_order))]
+#[tactic(auto, using(crate::proofs::ParamLaws::names_differ, crate::proofs::ParamLaws::names_order))]
 pub fn each_name_comes_once()
-    ensures differ { (ss : List InfSection) (id : List ℕ) (params : List Parameter) → parameters_of ss id ≡ Ok params → AllPairs (λ a b. is_same a b ≡ false) (names params) }
+    ensures differ { (ss : List InfSection) (id : List ℕ) (params : List Parameter) → parameters_of ss id ≡ Ok params → IsDistinct is_same (names params) }
     ensures order { (ss : List InfSection) (id : List ℕ) (params : List Parameter) → parameters_of ss id ≡ Ok params → names params ≡ each_once (names (set_by_rows ss id ++ defaults_by_rows ss id)) }
 {}
 
 /// The value of a name is that of the last row that sets it; where no row does, it is the first
 /// default; and where there is no default either, there is no such parameter.
-#[tactic(auto, using(crate::proofs::ValueLaws::value_last))]
+#[tactic(auto, using(crate::proofs::ParamLaws::value_last))]
 pub fn last_row_counts()
     ensures { (ss : List InfSection) (id : List ℕ) (params : List Parameter) (name : List ℕ) → parameters_of ss id ≡ Ok params → value_of name params ≡ option_or (value_of name (reverse (set_by_rows ss id))) (value_of name (defaults_by_rows ss id)) }
 {}

@@ -1,9 +1,9 @@
 //! Lists of lines.
 
-ghost use Rattle.std.specs.Prelude.{◌≡◌, ◌++◌, ◌∷◌, map, None, IfOk, OnOk};
+ghost use Rattle.std.specs.Prelude.{◌≡◌, ◌++◌, ◌∷◌, map, None, if◌then◌else◌, IfOk, OnOk};
 ghost use Rattle.std.specs.Option.{option_copied};
 ghost use Rattle.inf_file.specs.Earliest.{earlier};
-ghost use Rattle.inf_file.specs.Parameters.{lines_of_all, lines_read, directives_of, is_directive};
+ghost use Rattle.inf_file.specs.Parameters.{lines_of_all, lines_read, directives_of};
 
 use crate::source::Source;
 use inf_text::Line;
@@ -11,7 +11,7 @@ use nd_base::OutOfMemory;
 use std::alloc::Global;
 
 /// Of two lines the one that stands first in the file.
-pub fn earlier<'a>(best: Option<&'a Line>, line: &'a Line) -> Option<&'a Line>
+fn earlier<'a>(best: Option<&'a Line>, line: &'a Line) -> Option<&'a Line>
     ensures { option_copied result ≡ earlier (option_copied best.entry) line.now }
 {
     match best {
@@ -24,6 +24,13 @@ pub fn earlier<'a>(best: Option<&'a Line>, line: &'a Line) -> Option<&'a Line>
             }
         }
     }
+}
+
+/// The same where the second line passes a test, and else the first one.
+pub fn earlier_if<'a>(passes: bool, best: Option<&'a Line>, line: &'a Line) -> Option<&'a Line>
+    ensures { option_copied result ≡ (if passes then earlier (option_copied best.entry) line.now else option_copied best.entry) }
+{
+    if passes { earlier(best, line) } else { best }
 }
 
 /// Puts lines behind the last one.
@@ -47,20 +54,13 @@ pub fn lines_of_all<'a>(source: &Source<'a>, places: &[usize]) -> Result<Vec<&'a
     Ok(found)
 }
 
-/// Whether a line is an AddReg directive.
-fn is_directive(line: &Line) -> bool
-    ensures { result ≡ is_directive line.now }
-{
-    line.has_key(b"AddReg")
-}
-
 /// The AddReg directives among lines.
 pub fn directives_of(alloc: Global, lines: &[Line]) -> Result<Vec<&Line>, OutOfMemory>
     ensures { IfOk result (λ v. map (λ l. l.now) v.items ≡ directives_of lines.now) }
 {
     let mut found = Vec::new(alloc);
     for line in lines {
-        if is_directive(line) {
+        if line.has_key(b"AddReg") {
             found.push(line)?;
         }
     }

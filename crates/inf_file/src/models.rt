@@ -7,10 +7,10 @@ ghost use Rattle.inf_file.specs.Keyed.{string_in};
 ghost use Rattle.inf_text.specs.Names.{is_same};
 ghost use Rattle.inf_text.specs.Sections.{has_key, value_at, place_named};
 ghost use Rattle.inf_file.specs.Strings.{replaced};
-ghost use Rattle.inf_file.specs.Earliest.{earlier_if, earliest};
+ghost use Rattle.inf_file.specs.Earliest.{earliest};
 ghost use Rattle.inf_file.specs.Models.{is_good_signature, is_signed_by, is_signed, dotted, usual_names, first_place, is_nt_x86, decoration_place, decorated_place, models_place, has_id, model_of, install_place};
 
-use crate::lines::earlier;
+use crate::lines::earlier_if;
 use crate::repeats::{lines_thinned, push_place};
 use crate::source::Source;
 use inf_text::{Line, Name, is_same, is_word};
@@ -130,11 +130,7 @@ fn decorated_place(
 fn behind_first(values: &[Wide]) -> &[Wide]
     ensures { result.now ≡ drop 1 values.now }
 {
-    if values.is_empty() {
-        values
-    } else {
-        &values[1..]
-    }
+    &values[values.len().min(1)..]
 }
 
 /// The place of the models section that a manufacturer's line leads to.
@@ -164,22 +160,6 @@ fn has_id(source: &Source, id: &[u16], model: &Line) -> Result<bool, OutOfMemory
     Ok(false)
 }
 
-/// The earlier of two model lines, where the second has the hardware id.
-fn earlier_with_id<'a>(
-    source: &Source,
-    id: &[u16],
-    best: Option<&'a Line>,
-    line: &'a Line,
-) -> Result<Option<&'a Line>, OutOfMemory>
-    ensures { IfOk result (λ l. option_copied l ≡ earlier_if (has_id (string_in source.now.strings.now) id.now) (option_copied best.entry) line.now) }
-{
-    if has_id(source, id, line)? {
-        Ok(earlier(best, line))
-    } else {
-        Ok(best)
-    }
-}
-
 /// The first line of the file among those with the hardware id.
 #[tactic(auto, unfolding(crate::specs::Earliest::earliest))]
 fn first_with_id<'a>(
@@ -191,7 +171,7 @@ fn first_with_id<'a>(
 {
     let mut best: Option<&Line> = None;
     for line in lines {
-        best = earlier_with_id(source, id, best, line)?;
+        best = earlier_if(has_id(source, id, line)?, best, line);
     }
     Ok(best)
 }

@@ -5,11 +5,11 @@ ghost use Rattle.std.specs.Option.{option_copied};
 ghost use Rattle.inf_file.specs.Keyed.{string_in};
 ghost use Rattle.inf_text.specs.Sections.{place_named};
 ghost use Rattle.inf_file.specs.Strings.{replaced, line_lacks};
-ghost use Rattle.inf_file.specs.Earliest.{earlier_if, earliest};
+ghost use Rattle.inf_file.specs.Earliest.{earliest};
 ghost use Rattle.inf_file.specs.Repeats.{thinned};
 ghost use Rattle.inf_file.specs.Parameters.{named_places, reg_places, lines_of_all};
 
-use crate::lines::earlier;
+use crate::lines::earlier_if;
 use crate::repeats::{lines_thinned, push_place};
 use crate::source::Source;
 use inf_text::{Line, Name};
@@ -52,25 +52,10 @@ pub fn rows_named<'a>(
     source: &Source<'a>,
     directives: &[&Line],
 ) -> Result<Vec<&'a Line>, OutOfMemory>
-    ensures { IfOk result (λ v. map (λ l. l.now) v.items ≡ lines_of_all source.now.inf.now (thinned [] (reg_places (string_in source.now.strings.now) source.now.inf.now (map (λ l. l.now) directives.now)))) }
+    ensures { IfOk result (λ v. map (λ l. l.now) v.items ≡ lines_of_all source.now.inf.now (thinned (reg_places (string_in source.now.strings.now) source.now.inf.now (map (λ l. l.now) directives.now)))) }
 {
     let places = reg_places(source, directives)?;
     lines_thinned(source, places.as_slice())
-}
-
-/// The earlier of two lines, where the second lacks a string.
-fn earlier_lacking<'a>(
-    source: &Source,
-    best: Option<&'a Line>,
-    line: &'a Line,
-) -> Result<Option<&'a Line>, OutOfMemory>
-    ensures { IfOk result (λ l. option_copied l ≡ earlier_if (line_lacks (string_in source.now.strings.now)) (option_copied best.entry) line.now) }
-{
-    if source.strings.line_lacks(source.alloc, line)? {
-        Ok(earlier(best, line))
-    } else {
-        Ok(best)
-    }
 }
 
 /// The first line of the file among those that lack a string.
@@ -83,7 +68,7 @@ pub fn first_lacking<'a>(
 {
     let mut best: Option<&Line> = None;
     for line in lines {
-        best = earlier_lacking(source, best, line)?;
+        best = earlier_if(source.strings.line_lacks(source.alloc, line)?, best, line);
     }
     Ok(best)
 }

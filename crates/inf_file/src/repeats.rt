@@ -1,16 +1,16 @@
 //! Sections that are read more than once.
 
-ghost use Rattle.std.specs.Prelude.{◌≡◌, map, ℕ, ◌+◌, ◌<◌, false, [], length, drop, slice_index, slice_index_or, ◌++◌, IfOk, OnOk};
+ghost use Rattle.std.specs.Prelude.{◌≡◌, map, [], reverse, ◌++◌, IfOk, OnOk};
 ghost use Rattle.std.specs.List.{cons_option};
 ghost use Rattle.inf_file.specs.Parameters.{lines_of_all};
-ghost use Rattle.inf_file.specs.Repeats.{is_among, thinned};
+ghost use Rattle.inf_file.specs.Repeats.{once, thinned};
 
 use crate::lines::lines_of_all;
 use crate::source::Source;
+use indexmap::IndexSet;
 use inf_text::Line;
 use nd_base::OutOfMemory;
 use std::alloc::Global;
-use std::collections::HashSet;
 
 /// Puts a place behind the last one, if there is one.
 pub fn push_place(places: &mut Vec<usize>, place: Option<usize>) -> Result<(), OutOfMemory>
@@ -25,35 +25,54 @@ pub fn push_place(places: &mut Vec<usize>, place: Option<usize>) -> Result<(), O
     }
 }
 
-/// Whether each place comes again behind.
-fn comes_again(alloc: Global, places: &[usize]) -> Result<Vec<bool>, OutOfMemory>
-    ensures length { IfOk result (λ v. length v.items ≡ length places.now) }
-    ensures value { IfOk result (λ v. (k : ℕ) → k < length places.now → slice_index_or v.items k false ≡ is_among (slice_index places.now k) (drop (k + 1) places.now)) }
+/// Each place once, where it stands first.
+fn once_set(alloc: Global, places: &[usize]) -> Result<IndexSet<usize>, OutOfMemory>
+    ensures { IfOk result (λ s. s.keys ≡ once places.now) }
 {
-    let mut behind = HashSet::new(alloc);
-    let mut again = vec![in alloc; false; places.len()]?;
-    for i in (0..places.len()).rev() {
-        let is_new = behind.insert(places[i])?;
-        again[i] = !is_new;
+    let mut seen = IndexSet::new(alloc);
+    for place in places {
+        seen.insert(*place)?;
     }
-    Ok(again)
+    Ok(seen)
 }
 
-/// The places without those that stand before and come again behind, so that none is left more than
-/// twice.
-fn thinned(alloc: Global, places: &[usize]) -> Result<Vec<usize>, OutOfMemory>
-    ensures { IfOk result (λ v. v.items ≡ thinned [] places.now) }
+/// The same in a row.
+fn once(alloc: Global, places: &[usize]) -> Result<Vec<usize>, OutOfMemory>
+    ensures { IfOk result (λ v. v.items ≡ once places.now) }
 {
-    let again = comes_again(alloc, places)?;
-    let mut before = HashSet::new(alloc);
-    let mut left = Vec::new(alloc);
-    for (i, place) in places.iter().enumerate() {
-        let is_new = before.insert(*place)?;
-        if is_new || !again[i] {
-            left.push(*place)?;
-        }
+    let seen = once_set(alloc, places)?;
+    let mut found = Vec::new(alloc);
+    for place in seen {
+        found.push(place)?;
     }
-    Ok(left)
+    Ok(found)
+}
+
+/// Each place once, where it stands last.
+fn once_last(alloc: Global, places: &[usize]) -> Result<Vec<usize>, OutOfMemory>
+    ensures { IfOk result (λ v. v.items ≡ reverse (once (reverse places.now))) }
+{
+    let mut back = Vec::from_slice(alloc, places)?;
+    back.reverse();
+    let mut found = once(alloc, back.as_slice())?;
+    found.reverse();
+    Ok(found)
+}
+
+/// The places, and where some come again each as it stands first, and behind them each as it stands
+/// last: what is read between says nothing new.
+fn thinned(alloc: Global, places: &[usize]) -> Result<Vec<usize>, OutOfMemory>
+    ensures { IfOk result (λ v. v.items ≡ thinned places.now) }
+{
+    let mut found = once(alloc, places)?;
+    if found.len() == places.len() {
+        found.clear();
+        found.extend_from_slice(places)?;
+    } else {
+        let last = once_last(alloc, places)?;
+        found.extend_from_slice(last.as_slice())?;
+    }
+    Ok(found)
 }
 
 /// The lines of the sections at these places, without those that say nothing new.
@@ -61,7 +80,7 @@ pub fn lines_thinned<'a>(
     source: &Source<'a>,
     places: &[usize],
 ) -> Result<Vec<&'a Line>, OutOfMemory>
-    ensures { IfOk result (λ v. map (λ l. l.now) v.items ≡ lines_of_all source.now.inf.now (thinned [] places.now)) }
+    ensures { IfOk result (λ v. map (λ l. l.now) v.items ≡ lines_of_all source.now.inf.now (thinned places.now)) }
 {
     let places = thinned(source.alloc, places)?;
     lines_of_all(source, places.as_slice())

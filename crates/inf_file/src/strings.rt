@@ -29,17 +29,11 @@ impl Model for Strings {
     ghost view = { λ s. s.table.entries };
 }
 
-fn is_digit(unit: u16) -> bool
-    ensures { result ≡ is_digit unit }
-{
-    unit >= 48 && unit <= 57
-}
-
 /// Whether a key is decimal digits alone.
 fn is_number(key: &[u16]) -> bool
     ensures { result ≡ list_all is_digit key.now }
 {
-    key.iter().all(|unit| is_digit(*unit))
+    key.iter().all(|unit| (48..58).contains(unit))
 }
 
 /// What stands before the first two percent signs, between them and behind them.
@@ -47,13 +41,9 @@ fn next_key(text: &[u16]) -> Option<(&[u16], &[u16], &[u16])>
     ensures cases { MatchOption result (length (slice_split is_percent text.now) ≤ 2) (λ x. slice_split is_percent text.now ≡ x.0.now ∷ (x.1.now ∷ slice_split is_percent x.2.now)) }
     ensures shorter { IfSome result (λ x. length x.2.now < length text.now) }
 {
-    match part_at(PERCENT, text) {
-        Some((plain, rest)) => match part_at(PERCENT, rest) {
-            Some((key, behind)) => Some((plain, key, behind)),
-            None => None,
-        },
-        None => None,
-    }
+    let (plain, rest) = part_at(PERCENT, text)?;
+    let (key, behind) = part_at(PERCENT, rest)?;
+    Some((plain, key, behind))
 }
 
 /// Puts a key with its percent signs behind a text.

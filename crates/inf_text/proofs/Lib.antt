@@ -1,13 +1,6 @@
-pub mod Slices
-pub mod FoldLemmas
-pub mod CharacterLoops
-pub mod QuoteLoops
-pub mod JoinLoops
-pub mod ReadingLoops
-pub mod SectionLemmas
-pub mod Marks
 pub mod LayoutLines
-pub mod EndLemmas
 pub mod LayoutFiles
-pub mod Pieces
-pub mod DistinctLaws
+pub mod CharacterLaws
+pub mod SectionLaws
+pub mod LineLoops
+pub mod Loops

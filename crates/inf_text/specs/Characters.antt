@@ -1,8 +1,8 @@
 -- The characters of a file. Text that begins with the byte order mark FF FE is UTF-16, the low byte of each unit first
 -- (The Unicode Standard, chapter 3, "Unicode Encoding Forms"); of other text each byte is the character of that number.
-use Rattle.std.specs.Prelude.{ℕ, suc, ◌+◌, ◌*◌, ◌%◌, ◌≡◌, ◌≤◌, Bool, ◌&&◌, ◌||◌, ◌==◌, not, List, [], ◌∷◌, length, drop, Option, Some, None, Result, Ok, Err, slice_index, if◌then◌else◌}
-use Rattle.std.specs.Char.Utf16.{is_high_surrogate, is_low_surrogate}
-use Rattle.std.specs.List.{position}
+use Rattle.std.specs.Prelude.{ℕ, suc, ◌+◌, ◌*◌, ◌%◌, ◌≡◌, ◌≤◌, Bool, false, ◌&&◌, ◌||◌, ◌==◌, not, List, [], ◌∷◌, length, drop, Option, Some, None, Result, Ok, Err, slice_index, if◌then◌else◌}
+use Rattle.std.specs.Char.Utf16.{is_high_surrogate, is_low_surrogate, has_unpaired_surrogate}
+use Rattle.std.specs.List.{position, list_any}
 use Rattle.inf_text.specs.declared.refusal.InfRefusal.{InfRefusal}
 use Rattle.inf_text.specs.declared.refusal.InfRefusal.TheVariants.{BadText}
 
@@ -52,3 +52,9 @@ characters bytes = unless_bad (bad_byte bytes) (text_of bytes)
 pub record IsTextFile (bytes : List ℕ) : Type 0 where
   pub short : length bytes ≤ 1048576
   pub good : bad_byte bytes ≡ None
+
+-- UTF-16 behind the mark: whole units of two bytes, of which none is zero and no surrogate stands without its partner
+pub record IsUtf16 (bytes : List ℕ) : Type 0 where
+  pub whole : length bytes % 2 ≡ 0
+  pub some : list_any (λ u. u == 0) (units bytes) ≡ false
+  pub paired : has_unpaired_surrogate (units bytes) ≡ false

@@ -30,7 +30,7 @@ fn is_bad(before: u16, unit: u16, after: u16) -> bool
 }
 
 /// The unit of two bytes each at a place, the low byte first, and 0 behind the last one.
-#[tactic(auto, using(crate::proofs::CharacterLoops::unit_here, crate::proofs::CharacterLoops::no_unit))]
+#[tactic(auto, using(crate::proofs::Loops::unit_here, crate::proofs::Loops::no_unit))]
 fn unit_at(bytes: &[u8], i: usize) -> u16
     ensures { result ≡ slice_index (units bytes.now) i }
 {
@@ -42,7 +42,7 @@ fn unit_at(bytes: &[u8], i: usize) -> u16
 }
 
 /// The place of the first unit that no text has there.
-#[tactic(auto, using(crate::proofs::CharacterLoops::bad_on, crate::proofs::CharacterLoops::bad_here, crate::proofs::CharacterLoops::bad_end, crate::proofs::CharacterLoops::units_half, crate::proofs::CharacterLoops::further_none))]
+#[tactic(auto, using(crate::proofs::Loops::bad_on, crate::proofs::Loops::bad_here, crate::proofs::Loops::bad_end, crate::proofs::Loops::units_half, crate::proofs::Loops::further_none))]
 fn first_bad(bytes: &[u8]) -> Option<usize>
     ensures value { result ≡ first_bad 0 (units bytes.now) }
     ensures within { IfSome result (λ i. 2 * i < length bytes.now) }

@@ -1,17 +1,18 @@
 //! What holds of the sections that a file gives.
 
-ghost use Rattle.std.specs.Prelude.{ℕ, List, ◌≤◌, ◌≡◌, [], Ok, false, length, map, AllPairs};
+ghost use Rattle.std.specs.Prelude.{ℕ, List, ◌≤◌, ◌≡◌, [], ◌↔◌, true, drop, None, Ok, length, map};
+ghost use Rattle.std.specs.List.{IsDistinct};
 ghost use Rattle.inf_text.specs.Names.{is_same};
 ghost use Rattle.inf_text.specs.Sections.{Section as InfSection};
-ghost use Rattle.inf_text.specs.Characters.{characters};
+ghost use Rattle.inf_text.specs.Characters.{characters, has_mark, bad_byte, IsUtf16};
 ghost use Rattle.inf_text.specs.Reading.{collected, pieces_said, gathered, sections_of};
 ghost use Rattle.inf_text.specs.Layout.{Layout as LineLayout, laid_out, IsTextOf, AreLaidOut};
 ghost use Rattle.inf_text.specs.declared.statement.Statement.{Statement as Said};
 
 /// No two sections of an INF file have one name.
-#[tactic(auto, using(crate::proofs::DistinctLaws::sections_differ))]
+#[tactic(auto, using(crate::proofs::SectionLaws::sections_apart))]
 pub fn each_section_comes_once()
-    ensures { (bytes : List ℕ) (ss : List InfSection) → sections_of bytes ≡ Ok ss → AllPairs (λ s t. is_same s.name t.name ≡ false) ss }
+    ensures { (bytes : List ℕ) (ss : List InfSection) → sections_of bytes ≡ Ok ss → IsDistinct is_same (map (λ s. s.name) ss) }
 {}
 
 /// An INF file says what its lines were written to say, whatever layout each line has: blanks around
@@ -24,7 +25,14 @@ pub fn laid_out_is_read()
 {}
 
 /// A section may stand in several pieces: it has the lines of each, in the order of the file.
-#[tactic(auto, using(crate::proofs::Pieces::pieces_are_gathered))]
+#[tactic(auto, using(crate::proofs::SectionLaws::pieces_are_gathered))]
 pub fn pieces_are_gathered()
     ensures { (pieces : List InfSection) → collected (pieces_said pieces) ≡ Ok (gathered [] pieces) }
+{}
+
+/// Bytes behind the byte order mark are text exactly where they are UTF-16: whole units, of which
+/// none is zero and no surrogate stands without its partner.
+#[tactic(auto, using(crate::proofs::CharacterLaws::utf16_is_text))]
+pub fn utf16_is_text()
+    ensures { (bytes : List ℕ) → has_mark bytes ≡ true → (bad_byte bytes ≡ None) ↔ IsUtf16 (drop 2 bytes) }
 {}

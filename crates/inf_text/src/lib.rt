@@ -14,7 +14,7 @@ mod sections;
 mod statement;
 mod text;
 
-pub use laws::{each_section_comes_once, laid_out_is_read, pieces_are_gathered};
+pub use laws::{each_section_comes_once, laid_out_is_read, pieces_are_gathered, utf16_is_text};
 pub use line::Line;
 pub use name::{Name, is_same, is_word};
 pub use parts::part_at;

@@ -10,9 +10,9 @@ use std::marker::Model;
 /// A line: its number in the file, what stands before `=`, and the values.
 #[derive(Debug, Drop)]
 pub struct Line {
-    number: u32,
-    key: Option<Wide>,
-    values: Vec<Wide>,
+    pub(crate) number: u32,
+    pub(crate) key: Option<Wide>,
+    pub(crate) values: Vec<Wide>,
 }
 
 impl Model for Line {
@@ -25,17 +25,6 @@ impl Model for Line {
 
 impl Line {
     ghost use Rattle.inf_text.specs.Sections.{has_key, value_at};
-
-    /// A line of a section.
-    pub(crate) fn new(number: u32, key: Option<Wide>, values: Vec<Wide>) -> Line
-        ensures { result ≡ record { number = number; key = key; values = values.items } }
-    {
-        Line {
-            number,
-            key,
-            values,
-        }
-    }
 
     /// The number of the line in the file, from 1.
     pub fn number(&self) -> u32

@@ -21,7 +21,7 @@ fn without_case(unit: u16) -> u16
 }
 
 /// Whether two texts are equal without ASCII case.
-#[tactic(auto, using(crate::proofs::FoldLemmas::same_all, crate::proofs::FoldLemmas::same_unit, crate::proofs::FoldLemmas::same_length))]
+#[tactic(auto, using(crate::proofs::Loops::same_all, crate::proofs::Loops::same_unit, crate::proofs::Loops::same_length))]
 pub fn is_same(a: &[u16], b: &[u16]) -> bool
     ensures { result ≡ is_same a.now b.now }
 {
@@ -37,7 +37,7 @@ pub fn is_same(a: &[u16], b: &[u16]) -> bool
 }
 
 /// Whether a text is an ASCII word, without ASCII case.
-#[tactic(auto, using(crate::proofs::FoldLemmas::same_all, crate::proofs::FoldLemmas::same_unit, crate::proofs::FoldLemmas::same_length))]
+#[tactic(auto, using(crate::proofs::Loops::same_all, crate::proofs::Loops::same_unit, crate::proofs::Loops::same_length))]
 pub fn is_word(text: &[u16], word: &[u8]) -> bool
     ensures { result ≡ is_same word.now text.now }
 {

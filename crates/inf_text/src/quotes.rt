@@ -47,7 +47,7 @@ fn is_mark(mark: u16, inside: bool, c: u16) -> bool
 
 /// How many characters stand in front of the first that is this mark outside quotes: all, where
 /// none is.
-#[tactic(auto, using(crate::proofs::QuoteLoops::front_here, crate::proofs::QuoteLoops::front_on, crate::proofs::QuoteLoops::front_end))]
+#[tactic(auto, using(crate::proofs::Loops::front_here, crate::proofs::Loops::front_on, crate::proofs::Loops::front_end))]
 pub fn front_len(mark: u16, mut inside: bool, chars: &[u16]) -> usize
     ensures value { result ≡ front_len mark inside chars.now }
     ensures within { result ≤ length chars.now }
@@ -75,7 +75,7 @@ pub fn trimmed_start(mut chars: &[u16]) -> &[u16]
 }
 
 /// The characters without the blanks at the end.
-#[tactic(auto, using(crate::proofs::QuoteLoops::end_on, crate::proofs::QuoteLoops::end_here, crate::proofs::QuoteLoops::end_end))]
+#[tactic(auto, using(crate::proofs::Loops::end_on, crate::proofs::Loops::end_here, crate::proofs::Loops::end_end))]
 pub fn trimmed_end(chars: &[u16]) -> &[u16]
     ensures { result.now ≡ trimmed_end chars.now }
 {

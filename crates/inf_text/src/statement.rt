@@ -33,10 +33,22 @@ fn entry(alloc: Global, number: u32, chars: &[u16]) -> Result<Line, OutOfMemory>
 {
     match cut_key(chars) {
         Some((key, rest)) => {
-            let key = value(alloc, key)?;
-            Ok(Line::new(number, Some(key), values(alloc, rest)?))
+            let key = Some(value(alloc, key)?);
+            let values = values(alloc, rest)?;
+            Ok(Line {
+                number,
+                key,
+                values,
+            })
         }
-        None => Ok(Line::new(number, None, values(alloc, chars)?)),
+        None => {
+            let values = values(alloc, chars)?;
+            Ok(Line {
+                number,
+                key: None,
+                values,
+            })
+        }
     }
 }
 

@@ -1,5 +1,5 @@
 use Rattle.inf_file.specs.ByName.{models_in, lists_id}
-use Rattle.inf_file.proofs.EarliestLaws.{earliest-is_first}
+use Rattle.inf_file.proofs.AnswerLaws.{earliest-is_first}
 use Rattle.inf_file.proofs.laws.first_model_is_taken.Goals as goal
 
 pub returns : goal.returns

@@ -1,7 +1,7 @@
 use Rattle.std.proofs.Common.{Bor, arith}
 use Rattle.inf_text.specs.declared.line.Line.{Line}
 use Rattle.inf_file.specs.Keyed.{string_in}
-use Rattle.inf_file.proofs.ParameterLemmas.{places-more}
+use Rattle.inf_file.proofs.ParamLaws.{places-more}
 use Rattle.inf_file.proofs.reading.reg_places.Goals as goal
 
 pub loop-directive-preserved : goal.loop-directive-preserved

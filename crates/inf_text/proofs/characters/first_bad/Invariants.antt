@@ -1,6 +1,6 @@
 use Rattle.std.proofs.Common.{◌≡◌, drop}
 use Rattle.inf_text.specs.Characters.{units, first_bad}
-use Rattle.inf_text.proofs.CharacterLoops.{further}
+use Rattle.inf_text.proofs.Loops.{further}
 use Rattle.inf_text.proofs.characters.first_bad.Given as goal
 
 abbrev pub invariant-loop-i : goal.invariant-loop-i

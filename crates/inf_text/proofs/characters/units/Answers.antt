@@ -1,7 +1,7 @@
 use Rattle.std.proofs.Common.{◌∷◌, ◌++◌, [], List, ℕ, length, take, sym, ap, ◌∙◌, arith}
 use Rattle.std.proofs.lemmas.List.{take_more, take_all, length-take}
 use Rattle.inf_text.specs.Characters.{units}
-use Rattle.inf_text.proofs.CharacterLoops.{units_half}
+use Rattle.inf_text.proofs.Loops.{units_half}
 use Rattle.inf_text.proofs.characters.units.Goals as goal
 
 pub loop-i-preserved : goal.loop-i-preserved

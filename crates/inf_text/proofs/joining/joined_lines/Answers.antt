@@ -1,12 +1,12 @@
-use Rattle.std.proofs.Common.{sym, arith}
+use Rattle.std.proofs.Common.{refl, sym, arith}
 use Rattle.std.proofs.lemmas.Bool.{eqb-true}
-use Rattle.inf_text.proofs.JoinLoops.{starts, no_quotes, same_quotes, goes, stops, all_read}
+use Rattle.inf_text.proofs.LineLoops.{same_quotes, goes, stops, all_read}
 use Rattle.inf_text.proofs.joining.joined_lines.Goals as goal
 
 pub loop-rest-init : goal.loop-rest-init
 loop-rest-init c = record {
-  so_far = starts c.new-found.result.items c.new-front.result c.args.text.now c.new-found.ensures.items c.new-front.ensures;
-  quotes = no_quotes c.new-front.result c.new-front.ensures;
+  so_far = rw (c.new-found.ensures.items, c.new-front.ensures) refl;
+  quotes = rw c.new-front.ensures refl;
   count = omega arith;
 }
 
@@ -16,7 +16,7 @@ loop-rest-preserved-then-not-goes_on c = record {
       stops c.loop-rest.found.items _ c.push.new.self.items c.loop-rest.first c.loop-rest.number c.loop-rest.front c.extend_from_slice.new.self c.new-front-then-not-goes_on.result c.loop-rest.rest.now c.next_line.result.0.now c.next_line.result.1.now
       c.said-said.result.now c.kept-goes_on.result.0.now c.loop-rest.inside c.kept-goes_on.result.1 c.next_line.ensures.lines c.loop-rest.invariant.quotes c.said-said.ensures c.kept-goes_on.ensures.kept c.kept-goes_on.ensures.goes_on
       c.if-not-goes_on.true c.in_ok-extend_from_slice.ensures.ok c.in_ok-push.ensures.items c.new-front-then-not-goes_on.ensures c.loop-rest.invariant.so_far;
-  quotes = no_quotes c.new-front-then-not-goes_on.result c.new-front-then-not-goes_on.ensures;
+  quotes = rw c.new-front-then-not-goes_on.ensures refl;
   count = omega (arith, c.next_line.ensures.shorter);
 }
 

@@ -1,4 +1,4 @@
-use Rattle.inf_text.proofs.JoinLoops.{line_some, line_none}
+use Rattle.inf_text.proofs.LineLoops.{line_some, line_none}
 use Rattle.inf_text.proofs.joining.next_line.Goals as goal
 
 pub returns-in-Some-clause-lines : goal.returns-in-Some-clause-lines

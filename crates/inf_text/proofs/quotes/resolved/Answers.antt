@@ -1,7 +1,7 @@
 use Rattle.std.proofs.Common.{◌≡◌, ℕ, Bool, true, false, List, [], ◌∷◌, ◌++◌, ◌<◌, ◌≤◌, length, get_or, drop, arith, sym, ap, ◌∙◌, ◌+◌, append_assoc}
 use Rattle.std.proofs.lemmas.List.{append-nil}
 use Rattle.inf_text.specs.Quotes.{turned, stays, resolved_behind}
-use Rattle.inf_text.proofs.QuoteLoops.{resolved_stay, resolved_go, resolved_end}
+use Rattle.inf_text.proofs.Loops.{resolved_stay, resolved_go, resolved_end}
 use Rattle.inf_text.proofs.quotes.resolved.Goals as goal
 use Rattle.inf_text.proofs.quotes.resolved.Goals.{then-stays+in_ok-push, else-stays}
 

@@ -1,6 +1,6 @@
 use Rattle.std.proofs.Common.{◌≡◌, ℕ, List, [], ◌∷◌, ◌++◌, false, map, Some, None, sym, ap, ◌∙◌, append_assoc}
 use Rattle.inf_text.specs.Quotes.{value, cut, parts}
-use Rattle.inf_text.proofs.QuoteLoops.{parts_some, parts_none}
+use Rattle.inf_text.proofs.Loops.{parts_some, parts_none}
 use Rattle.inf_text.proofs.quotes.values.Goals as goal
 
 one_more : (found next all : List (List ℕ)) (cs part behind one : List ℕ) → cut 44 cs ≡ Some (part, behind) → one ≡ value part → next ≡ found ++ one ∷ [] → found ++ map value (parts false cs) ≡ all → next ++ map value (parts false behind) ≡ all

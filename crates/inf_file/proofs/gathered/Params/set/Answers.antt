@@ -3,7 +3,7 @@ use Rattle.inf_file.specs.Keyed.{params_in}
 use Rattle.inf_file.specs.Rows.{with_param}
 use Rattle.inf_file.specs.declared.param.Param.{Param}
 use Rattle.inf_file.specs.declared.param.ParamValue.{ParamValue}
-use Rattle.inf_file.proofs.ParamLemmas.{inserted}
+use Rattle.inf_file.proofs.ParamLists.{inserted}
 use Rattle.inf_file.proofs.gathered.Params.set.Goals as goal
 
 pub returns : goal.returns

@@ -3,7 +3,7 @@ use Rattle.inf_file.specs.Keyed.{params_in}
 use Rattle.inf_file.specs.Rows.{with_default}
 use Rattle.inf_file.specs.declared.param.Param.{Param}
 use Rattle.inf_file.specs.declared.param.ParamValue.{ParamValue}
-use Rattle.inf_file.proofs.ParamLemmas.{default-old, default-new}
+use Rattle.inf_file.proofs.ParamLists.{default-old, default-new}
 use Rattle.inf_file.proofs.gathered.Params.set_default.Goals as goal
 
 -- what a table's parameters are with a default of this name is what they are with the default that is given

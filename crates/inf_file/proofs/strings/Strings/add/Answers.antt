@@ -1,7 +1,7 @@
 use Rattle.std.proofs.Common.{sym, ap, ◌∙◌}
 use Rattle.std.proofs.lemmas.Result.{on_ok_weaker}
 use Rattle.inf_file.specs.Keyed.{string_in, or_string}
-use Rattle.inf_file.proofs.StringLemmas.{with_string-none, with_string-some}
+use Rattle.inf_file.proofs.StringLaws.{with_string-none, with_string-some}
 use Rattle.inf_file.proofs.strings.Strings.add.Goals as goal
 
 pub returns-in-Some : goal.returns-in-Some

@@ -1,6 +1,6 @@
 use Rattle.std.proofs.Common.{◌≡◌, List, ℕ, refl, sym, ap, ◌∙◌}
 use Rattle.inf_file.specs.Keyed.{string_in, or_string}
-use Rattle.inf_file.proofs.StringLemmas.{or_string-old, or_string-new}
+use Rattle.inf_file.proofs.StringLaws.{or_string-old, or_string-new}
 use Rattle.inf_file.proofs.strings.Strings.add_string.Goals as goal
 
 -- the strings with one more, where the key and the text are copies

@@ -1,6 +1,6 @@
 use Rattle.std.proofs.Common.{sym, ◌∙◌}
 use Rattle.inf_file.specs.Keyed.{string_in}
-use Rattle.inf_file.proofs.StringLemmas.{lacks-more, lacks-found, lacks-last}
+use Rattle.inf_file.proofs.StringLaws.{lacks-more, lacks-found, lacks-last}
 use Rattle.inf_file.proofs.strings.Strings.lacks_string.Goals as goal
 
 pub loop-plain-preserved : goal.loop-plain-preserved

@@ -1,4 +1,4 @@
-use Rattle.inf_file.proofs.StringLemmas.{no_strings-in}
+use Rattle.inf_file.proofs.StringLaws.{no_strings-in}
 use Rattle.inf_file.proofs.strings.Strings.of.Goals as goal
 
 pub loop-line-init : goal.loop-line-init

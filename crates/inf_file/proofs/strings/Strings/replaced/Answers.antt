@@ -1,5 +1,5 @@
 use Rattle.inf_file.specs.Keyed.{string_in}
-use Rattle.inf_file.proofs.StringLemmas.{replaced-more, replaced-end}
+use Rattle.inf_file.proofs.StringLaws.{replaced-more, replaced-end}
 use Rattle.inf_file.proofs.strings.Strings.replaced.Goals as goal
 
 pub loop-plain-preserved : goal.loop-plain-preserved

@@ -1,6 +1,6 @@
 use Rattle.std.proofs.Common.{ap, ◌∙◌}
 use Rattle.inf_text.specs.Sections.{with_line}
-use Rattle.inf_text.proofs.SectionLemmas.{line-set}
+use Rattle.inf_text.proofs.SectionLaws.{line-set}
 use Rattle.inf_text.proofs.sections.Inf.add_line.Goals as goal
 
 pub returns : goal.returns

@@ -1,7 +1,7 @@
 use Rattle.std.proofs.Common.{ap, ◌∙◌, sym}
 use Rattle.inf_text.specs.Sections.{place_of, with_section}
 use Rattle.inf_text.specs.Entries.{sections_in}
-use Rattle.inf_text.proofs.SectionLemmas.{Entries, place-sections, section-old, section-new}
+use Rattle.inf_text.proofs.SectionLaws.{Entries, place-sections, section-old, section-new}
 use Rattle.inf_text.proofs.sections.Inf.begin_section.Goals as goal
 
 pub returns-in-Some-clause-place : goal.returns-in-Some-clause-place

@@ -2,7 +2,7 @@ use Rattle.std.proofs.Common.{◌≡◌, true, false, sym, ap, ◌∙◌}
 use Rattle.inf_text.specs.Names.{is_same}
 use Rattle.inf_text.specs.Sections.{lines_named}
 use Rattle.inf_text.specs.Entries.{section_in, sections_in}
-use Rattle.inf_text.proofs.SectionLemmas.{Entries, named-here, named-further}
+use Rattle.inf_text.proofs.SectionLaws.{Entries, named-here, named-further}
 use Rattle.inf_text.proofs.sections.Inf.lines_named.Goals as goal
 
 pub loop-own-init : goal.loop-own-init

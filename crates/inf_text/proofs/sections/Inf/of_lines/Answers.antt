@@ -1,7 +1,7 @@
 use Rattle.std.proofs.Common.{sym, ◌∙◌, arith}
 use Rattle.std.proofs.lemmas.Result.{err_from_is_err_and}
 use Rattle.inf_text.specs.Reading.{Front}
-use Rattle.inf_text.proofs.ReadingLoops.{line_on, bad_line, all_taken}
+use Rattle.inf_text.proofs.LineLoops.{line_on, bad_line, all_taken}
 use Rattle.inf_text.proofs.sections.Inf.of_lines.Goals as goal
 
 pub returns-in_err-place : goal.returns-in_err-place

@@ -1,6 +1,6 @@
 use Rattle.std.proofs.Common.{List, ap, ◌∙◌}
 use Rattle.inf_text.specs.Sections.{Section, place_named}
-use Rattle.inf_text.proofs.SectionLemmas.{position-sections}
+use Rattle.inf_text.proofs.SectionLaws.{position-sections}
 use Rattle.inf_text.proofs.sections.Inf.place.Goals as goal
 
 pub returns : goal.returns

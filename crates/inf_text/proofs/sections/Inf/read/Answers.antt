@@ -1,6 +1,6 @@
 use Rattle.std.proofs.Common.{arith, sym, ◌∙◌}
 use Rattle.inf_text.specs.Characters.{text_of}
-use Rattle.inf_text.proofs.ReadingLoops.{too_long, bad_byte_there, all_good, all_given}
+use Rattle.inf_text.proofs.LineLoops.{too_long, bad_byte_there, all_good, all_given}
 use Rattle.inf_text.proofs.sections.Inf.read.Goals as goal
 
 pub returns-then-bytes-gt-LONGEST_FILE-clause-value : goal.returns-then-bytes-gt-LONGEST_FILE-clause-value

@@ -1,6 +1,6 @@
 use Rattle.std.proofs.Common.{Some, ap, arith, length}
 use Rattle.inf_text.specs.Reading.{IsWithin}
-use Rattle.inf_text.proofs.SectionLemmas.{length-with_line}
+use Rattle.inf_text.proofs.SectionLaws.{length-with_line}
 use Rattle.inf_text.proofs.sections.Inf.take_entry.Goals as goal
 
 pub returns-clause-within : goal.returns-clause-within

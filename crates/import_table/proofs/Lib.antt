@@ -1,0 +1,5 @@
+mod CallFacts
+mod CallWords
+mod Counting
+mod NumberedRows
+mod TableFacts

@@ -1,0 +1,5 @@
+//! Tests of import_table.
+#![tactic(auto)]
+
+#[cfg(test)]
+mod tests;

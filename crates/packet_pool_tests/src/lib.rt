@@ -1,0 +1,5 @@
+//! Tests of packet_pool.
+#![tactic(auto)]
+
+#[cfg(test)]
+mod tests;

@@ -1,6 +1,6 @@
 -- Each loan: what is away comes back once.
 use Rattle.std.proofs.Common.{◌≡◌, ℕ, zero, suc, ◌+◌, ◌≤◌, ◌<◌, Bool, true, false, cond, not, ◌&&◌, ◌==◌, List, [], ◌∷◌, ◌++◌, length, None, refl, sym, ap, ◌∙◌, arith, length-append}
-use Rattle.std.specs.Prelude.{nat_lt}
+use Rattle.std.specs.Prelude.{nat_lt, slice_set}
 use Rattle.std.proofs.lemmas.Bool.Decides.{nat_tests}
 use Rattle.call_log.specs.declared.entry.Entry.{Entry}
 use Rattle.call_log.specs.declared.entry.Entry.TheVariants.{Indicate, Return, Back}
@@ -10,7 +10,8 @@ use Rattle.owner_machine.specs.declared.rows.LoanPlace.TheVariants.{Out, Due, Ho
 use Rattle.owner_machine.specs.declared.rows.Next.{Next}
 use Rattle.owner_machine.specs.declared.rows.Next.TheVariants.{Tail, GoingHome}
 use Rattle.owner_machine.specs.State.{Owner, at, change}
-use Rattle.owner_machine.specs.Loans.{away, is_away, is_lent, is_due, holds, lent, returned, gone_home, may_go_home}
+use Rattle.owner_machine.specs.Loans.{away, is_away, is_lent, is_due, holds, has_holder, nobody, marks, lent, returned, gone_home, may_go_home}
+use Rattle.owner_machine.specs.Contexts.{serialized}
 use Rattle.owner_machine.specs.Machine.{rule_against, after}
 use Rattle.owner_machine.specs.Legal.{Legal, Ends, Goes, Registers, Breaches}
 use Rattle.owner_machine.specs.Laws.{number, comes_back, times}
@@ -111,3 +112,61 @@ pub away_drawn : (rows : List Loan) (j : ℕ) → at is_away_row rows j ≡ true
 away_drawn [] j h = absurd (cc)
 away_drawn (row ∷ rows) zero h = omega arith
 away_drawn (row ∷ rows) (suc j) h = let more = away_drawn rows j h in omega (arith, more)
+
+-- ---- a loan that is due has no holder
+
+abbrev pub is_held_due : Loan → Bool
+is_held_due l = is_due l.place && has_holder l.holders
+
+number_none : (b : Bool) → number b ≡ 0 → b ≡ false
+number_none true h = absurd (omega (arith, h))
+number_none false h = refl
+
+stays_false : (test : Loan → Bool) (f : Loan → Loan) (rows : List Loan) (j k : ℕ) → ((row : Loan) → test (f row) ≡ false) → at test rows k ≡ false → at test (change f rows j) k ≡ false
+stays_false test f [] j k w h = h
+stays_false test f (row ∷ rows) zero zero w h = w row
+stays_false test f (row ∷ rows) zero (suc k) w h = h
+stays_false test f (row ∷ rows) (suc j) zero w h = h
+stays_false test f (row ∷ rows) (suc j) (suc k) w h = stays_false test f rows j k w h
+
+returned_unheld : (held : Bool) → is_due (cond held Out Due) && held ≡ false
+returned_unheld true = refl
+returned_unheld false = refl
+
+new_unheld : (copied serial : Bool) (holders : List Bool) (held : Bool) → has_holder holders ≡ held → is_due (cond copied Home (cond held Out (cond serial Home Due))) && has_holder (cond copied nobody holders) ≡ false
+new_unheld true serial holders held same = refl
+new_unheld false serial holders true same = refl
+new_unheld false true holders false same = refl
+new_unheld false false holders false same = same
+
+unheld_step : (o : Owner) (e : Entry) (k : ℕ) → at is_held_due o.loans k ≡ false → at is_held_due (after o e).loans k ≡ false
+unheld_step o (Indicate adapter loan bytes holders copied) k h =
+    let more = grows is_held_due o.loans (lent o adapter holders copied) k in
+    let was = ap number h in
+    let new : is_held_due (lent o adapter holders copied) ≡ false = new_unheld copied (serialized o adapter.0) (marks holders) (has_holder (marks holders)) refl in
+    let none = ap (λ (b : Bool). number ((length o.loans == k) && b)) new in
+    let nothing = ap number (and_no (length o.loans == k)) in
+    number_none _ (omega (arith, more, was, none, nothing))
+  where
+    and_no : (b : Bool) → b && false ≡ false
+    and_no true = refl
+    and_no false = refl
+unheld_step o (Return driver loan) k h = stays_false is_held_due (returned driver.0) o.loans loan.0 k (λ row. returned_unheld (has_holder (slice_set row.holders driver.0 false))) h
+unheld_step o (Back loan failed) k h = stays_false is_held_due gone_home o.loans loan.0 k (λ row. refl) h
+unheld_step o _ k h = h
+
+pub unheld_kept : (o n : Owner) (log : List Entry) (k : ℕ) → Legal o log n → at is_held_due o.loans k ≡ false → at is_held_due n.loans k ≡ false
+unheld_kept o n log k (Ends m) h = h
+unheld_kept o n log k (Goes m l e rest r more) h = unheld_kept (after o e) n rest k more (unheld_step o e k h)
+unheld_kept o n log k (Registers m l rest c p more) h = unheld_kept _ n log k more h
+unheld_kept o n log k (Breaches m l c eax rest r more) h = unheld_kept _ n rest k more h
+
+pub due_unheld : (rows : List Loan) (j : ℕ) → at is_held_due rows j ≡ false → at (λ l. is_due l.place) rows j ≡ true → at (λ l. has_holder l.holders) rows j ≡ false
+due_unheld [] j h is = refl
+due_unheld (row ∷ rows) zero h is = sym (ap (λ (b : Bool). b && has_holder row.holders) is) ∙ h
+due_unheld (row ∷ rows) (suc j) h is = due_unheld rows j h is
+
+pub deserialized_out : (serial held : Bool) → serial ≡ false → is_away (cond held Out (cond serial Home Due)) ≡ true
+deserialized_out true held h = absurd (cc)
+deserialized_out false true h = refl
+deserialized_out false false h = refl

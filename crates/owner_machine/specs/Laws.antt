@@ -1,7 +1,10 @@
 -- Laws of the owner machine. Each record is the contract of a function of src/laws.rt that does nothing.
-use Rattle.std.specs.Prelude.{◌≡◌, ℕ, ◌+◌, ◌≤◌, ◌<◌, Bool, true, false, ◌&&◌, ◌==◌, cond, List, [], ◌∷◌, length, Some, None, count_by}
+use Rattle.std.specs.Prelude.{◌≡◌, ◌≢◌, ℕ, ◌+◌, ◌≤◌, ◌<◌, Bool, true, false, ◌&&◌, ◌==◌, cond, List, [], ◌∷◌, length, Some, None, count_by}
 use Rattle.nd_base.specs.declared.numbers.AdapterNo.{AdapterNo}
+use Rattle.nd_base.specs.declared.numbers.BindingNo.{BindingNo}
 use Rattle.nd_base.specs.declared.numbers.CtxNo.{CtxNo}
+use Rattle.nd_base.specs.declared.numbers.RequestNo.{RequestNo}
+use Rattle.nd_base.specs.declared.numbers.Status.{Status}
 use Rattle.log_fields.specs.declared.field_values.Handler.{Handler}
 use Rattle.log_fields.specs.declared.write.Write.{Write}
 use Rattle.call_log.specs.declared.entry.Entry.{Entry}
@@ -9,7 +12,7 @@ use Rattle.call_log.specs.declared.entry.Entry.TheVariants as entries
 use Rattle.owner_machine.specs.State.{Owner, at, phase_is, is_stopped, bound, adapter_of}
 use Rattle.owner_machine.specs.Contexts.{how_many, is_serial, is_halt, any_handler, runs, serialized}
 use Rattle.owner_machine.specs.Packets.{out, packet_adapter}
-use Rattle.owner_machine.specs.Loans.{away, is_named}
+use Rattle.owner_machine.specs.Loans.{away, is_away, is_due, is_named, has_holder, lent}
 use Rattle.owner_machine.specs.Requests.{unanswered, request_adapter}
 use Rattle.owner_machine.specs.Handlers.{outstanding, stays_bound, nothing_waits}
 use Rattle.owner_machine.specs.Must.{Due, serves, tail}
@@ -80,6 +83,10 @@ pub record LoanLaws : Type 0 where
   pub at_most_once : (adapters : ℕ) (drivers : List AdapterNo) (log : List Entry) (o : Owner) (j : ℕ) → Legal (start adapters drivers) log o → times (comes_back j) log ≤ 1
   -- a loan that is away, from any moment on: it came back once where it is away no more, else it did not
   pub exactly_once : (o n : Owner) (log : List Entry) (j : ℕ) → Legal o log n → away o j ≡ true → times (comes_back j) log + number (away n j) ≡ 1
+  -- a loan is due only where nobody holds it
+  pub unheld : (adapters : ℕ) (drivers : List AdapterNo) (log : List Entry) (o : Owner) (j : ℕ) → Legal (start adapters drivers) log o → at (λ l. is_due l.place) o.loans j ≡ true → at (λ l. has_holder l.holders) o.loans j ≡ false
+  -- a deserialized miniport gets each packet back that was not copied
+  pub lent_out : (o : Owner) (adapter : AdapterNo) (holders : List BindingNo) → serialized o adapter.0 ≡ false → is_away (lent o adapter holders false).place ≡ true
 
 -- ---- requests
 
@@ -87,6 +94,8 @@ pub record RequestLaws : Type 0 where
   pub at_most_once : (adapters : ℕ) (drivers : List AdapterNo) (log : List Entry) (o : Owner) (r : ℕ) → Legal (start adapters drivers) log o → times (answers r) log ≤ 1
   -- a request that was asked: it was answered once where it is no more open, else it was not
   pub exactly_once : (adapters : ℕ) (drivers : List AdapterNo) (log : List Entry) (o : Owner) (r : ℕ) → Legal (start adapters drivers) log o → r < length o.requests → times (answers r) log + number (unanswered o r) ≡ 1
+  -- what is answered with another status than SUCCESS leaves every driver's filter and list
+  pub learns : (o : Owner) (request : RequestNo) (status : Status) (bytes : List ℕ) → status.0 ≢ 0 → (after o (entries.Answer request status bytes)).drivers ≡ o.drivers
 
 -- ---- handlers
 

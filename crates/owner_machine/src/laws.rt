@@ -7,12 +7,12 @@ pub fn packet_laws()
     ensures { PacketLaws }
 {}
 
-/// Each loan that went out comes back once.
+/// Each loan that went out comes back once, and is due only where nobody holds it.
 pub fn loan_laws()
     ensures { LoanLaws }
 {}
 
-/// Each request is answered once.
+/// Each request is answered once; a driver learns only what was answered with success.
 pub fn request_laws()
     ensures { RequestLaws }
 {}

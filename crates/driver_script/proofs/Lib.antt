@@ -1,0 +1,9 @@
+pub mod Adds
+pub mod Decimals
+pub mod Digits
+pub mod Exact
+pub mod Lines
+pub mod Making
+pub mod Texts
+pub mod Walking
+pub mod Whole

@@ -1,0 +1,6 @@
+pub mod Keywords
+pub mod Forms
+pub mod Items
+pub mod Statements
+pub mod Scripts
+pub mod Reading

@@ -172,17 +172,34 @@ fn is_new_packet(memory: &Memory, at: u32) -> bool {
     new
 }
 
-/// A packet that is allocated again where it stood is as new again.
+/// Where a buffer was, with its fields, in a pool that is no longer there.
+fn former_buffer(alloc: Global, pools: &mut Pools, memory: &mut Memory) -> Option<Addr>
+    requires { HasGuestPool (map.get memory.old) }
+    ensures { HasGuestPool (map.get memory.new) }
+{
+    let pool = pools.make_buffers(alloc, 1).ok()?;
+    let bytes = Addr(0xFFFF_FFFF);
+    let buffer = pools
+        .alloc_buffer(pool, bytes, 1514, &Layout::usual(), memory)
+        .ok()?;
+    pools.free_buffer(buffer).ok()?;
+    pools.free_pool(pool).ok()?;
+    Some(buffer)
+}
+
+/// A packet that is allocated where a buffer was is as new, and so it is where a packet was.
 fn written_again(alloc: Global, pools: &mut Pools, memory: &mut Memory) -> Option<bool>
     requires { HasGuestPool (map.get memory.old) }
 {
     let layout = Layout::usual();
+    let buffer = former_buffer(alloc, pools, memory)?;
+    let over = !is_new_packet(memory, buffer.0);
     let pool = pools.make_packets(alloc, 1).ok()?;
     let packet = pools.alloc_packet(pool, &layout, memory).ok()?;
-    let first = is_new_packet(memory, packet.0);
+    let first = packet == buffer && is_new_packet(memory, packet.0);
     pools.free_packet(packet).ok()?;
     let again = pools.alloc_packet(pool, &layout, memory).ok()?;
-    Some(first && again == packet && is_new_packet(memory, packet.0))
+    Some(over && first && again == packet && is_new_packet(memory, packet.0))
 }
 
 fn test_written(alloc: Global) -> Option<bool> {

@@ -7,3 +7,4 @@ pub mod RequestLaw
 pub mod Overlap
 pub mod StopLaw
 pub mod TailLaw
+pub mod FinishLaw

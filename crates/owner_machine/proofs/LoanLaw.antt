@@ -27,12 +27,12 @@ due_away Due h = refl
 due_away Out h = refl
 due_away Home h = h
 
-lent_away : (place : LoanPlace) → is_lent place ≡ true → is_away place ≡ true
+pub lent_away : (place : LoanPlace) → is_lent place ≡ true → is_away place ≡ true
 lent_away Out h = refl
 lent_away Due h = refl
 lent_away Home h = h
 
-left_away : (b : Bool) → is_away (cond b Out Due) ≡ true
+pub left_away : (b : Bool) → is_away (cond b Out Due) ≡ true
 left_away true = refl
 left_away false = refl
 

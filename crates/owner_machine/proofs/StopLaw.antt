@@ -70,18 +70,18 @@ answer_wants _ a = refl
 -- ---- phases
 
 -- a change that leaves the phase
-same_phase : (f : Adapter → Adapter) (rows : List Adapter) (b a : ℕ) → ((row : Adapter) → has_stopped (f row) ≡ has_stopped row) → at has_stopped (change f rows b) a ≡ true → at has_stopped rows a ≡ true
+pub same_phase : (f : Adapter → Adapter) (rows : List Adapter) (b a : ℕ) → ((row : Adapter) → has_stopped (f row) ≡ has_stopped row) → at has_stopped (change f rows b) a ≡ true → at has_stopped rows a ≡ true
 same_phase f rows b a w is = sym (kept has_stopped f rows b a w) ∙ is
 
 -- a change that makes a phase other than Stopped
-no_stop : (f : Adapter → Adapter) (rows : List Adapter) (b a : ℕ) → ((row : Adapter) → has_stopped (f row) ≡ false) → at has_stopped (change f rows b) a ≡ true → (b == a ≡ false) × (at has_stopped rows a ≡ true)
+pub no_stop : (f : Adapter → Adapter) (rows : List Adapter) (b a : ℕ) → ((row : Adapter) → has_stopped (f row) ≡ false) → at has_stopped (change f rows b) a ≡ true → (b == a ≡ false) × (at has_stopped rows a ≡ true)
 no_stop f [] b a w is = absurd (cc)
 no_stop f (row ∷ rows) zero zero w is = absurd (not_true _ is (w row))
 no_stop f (row ∷ rows) zero (suc a) w is = (grind arith, is)
 no_stop f (row ∷ rows) (suc b) zero w is = (grind arith, is)
 no_stop f (row ∷ rows) (suc b) (suc a) w is = let more = no_stop f rows b a w is in (suc_eq b a ∙ more.0, more.1)
 
-entered_phase : (h : Handler) (row : Adapter) → has_stopped (adapter_entered h row) ≡ true → has_stopped row ≡ true
+pub entered_phase : (h : Handler) (row : Adapter) → has_stopped (adapter_entered h row) ≡ true → has_stopped row ≡ true
 entered_phase handlers.Halt row is = absurd (cc)
 entered_phase handlers.Shutdown row is = absurd (cc)
 entered_phase handlers.CancelSend row is = is
@@ -89,7 +89,7 @@ entered_phase handlers.PnpEvent row is = is
 entered_phase _ row is = is
 
 -- an adapter that a change leaves stopped was stopped
-were : (f : Adapter → Adapter) (rows : List Adapter) (b a : ℕ) → ((row : Adapter) → has_stopped (f row) ≡ true → has_stopped row ≡ true) → at has_stopped (change f rows b) a ≡ true → at has_stopped rows a ≡ true
+pub were : (f : Adapter → Adapter) (rows : List Adapter) (b a : ℕ) → ((row : Adapter) → has_stopped (f row) ≡ true → has_stopped row ≡ true) → at has_stopped (change f rows b) a ≡ true → at has_stopped rows a ≡ true
 were f [] b a w is = is
 were f (row ∷ rows) zero zero w is = w row is
 were f (row ∷ rows) zero (suc a) w is = is
@@ -118,19 +118,19 @@ entry_left_phase (suc eax) [] a is = is
 entry_left_phase (suc eax) (row ∷ rows) zero is = off_phase row.phase is
 entry_left_phase (suc eax) (row ∷ rows) (suc a) is = entry_left_phase (suc eax) rows a is
 
-left_phases : (rows : List Adapter) (x : Option Context) (eax a : ℕ) → at has_stopped (adapters_left rows x eax) a ≡ true → at has_stopped rows a ≡ true
+pub left_phases : (rows : List Adapter) (x : Option Context) (eax a : ℕ) → at has_stopped (adapters_left rows x eax) a ≡ true → at has_stopped rows a ≡ true
 left_phases rows (Some (Open (Some b) h enter call)) eax a is = were (adapter_left h eax) rows b.0 a (left_phase h eax) is
 left_phases rows (Some (Open None h enter call)) eax a is = entry_left_phase eax rows a is
 left_phases rows (Some Free) eax a is = is
 left_phases rows None eax a is = is
 
-called_phases : (rows : List Adapter) (x : Option Context) (import a : ℕ) → at has_stopped (adapters_called rows x import) a ≡ true → at has_stopped rows a ≡ true
+pub called_phases : (rows : List Adapter) (x : Option Context) (import a : ℕ) → at has_stopped (adapters_called rows x import) a ≡ true → at has_stopped rows a ≡ true
 called_phases rows (Some (Open (Some b) h enter call)) import a is = same_phase (resources import) rows b.0 a (λ row. refl) is
 called_phases rows (Some (Open None h enter call)) import a is = is
 called_phases rows (Some Free) import a is = is
 called_phases rows None import a is = is
 
-answered_phases : (rows : List Adapter) (x : Option Context) (a : ℕ) → at has_stopped (adapters_answered rows x) a ≡ true → at has_stopped rows a ≡ true
+pub answered_phases : (rows : List Adapter) (x : Option Context) (a : ℕ) → at has_stopped (adapters_answered rows x) a ≡ true → at has_stopped rows a ≡ true
 answered_phases rows (Some (Open (Some b) h enter (Some call))) a is = same_phase (with_attributes (sets_attributes h call) call.flags) rows b.0 a (λ row. refl) is
 answered_phases rows (Some (Open (Some b) h enter None)) a is = is
 answered_phases rows (Some (Open None h enter (Some call))) a is = is
@@ -175,13 +175,13 @@ gone a (y ∷ cs) = let more = gone a cs in let one = none_left (runs any_handle
     none_left true is = refl
     none_left false is = ap number is
 
-both_phases : (rows : List Adapter) (a : ℕ) → at (λ row. not (has_stopped row)) rows a ≡ true → at has_stopped rows a ≡ true → ⊥
+pub both_phases : (rows : List Adapter) (a : ℕ) → at (λ row. not (has_stopped row)) rows a ≡ true → at has_stopped rows a ≡ true → ⊥
 both_phases [] a lives is = cc
 both_phases (row ∷ rows) zero lives is = not_true (not (has_stopped row)) lives (ap not is)
 both_phases (row ∷ rows) (suc a) lives is = both_phases rows a lives is
 
 -- an adapter that stands is not the one that is stopped
-other_adapter : (rows : List Adapter) (a b : ℕ) → at (λ row. not (has_stopped row)) rows b ≡ true → at has_stopped rows a ≡ true → (b == a) ≡ false
+pub other_adapter : (rows : List Adapter) (a b : ℕ) → at (λ row. not (has_stopped row)) rows b ≡ true → at has_stopped rows a ≡ true → (b == a) ≡ false
 other_adapter rows a b lives is = by_number (b == a) refl
   where
     by_number : (t : Bool) → (b == a) ≡ t → (b == a) ≡ false
@@ -207,7 +207,7 @@ stop_still o a b all st still_o false other = let was = (still_o (sym (other_row
 stop_still o a b true st still_o true same = let e1 = count_entry_freed (runs any_handler a) (freed b o.contexts) refl in let e2 = ap (λ (m : ℕ). count_by (runs any_handler a) (freed m o.contexts)) (equal b a same) ∙ gone a o.contexts in omega (arith, e1, e2)
 stop_still o a b false st still_o true same = ap (λ (m : ℕ). count_by (runs any_handler a) (freed m o.contexts)) (equal b a same) ∙ gone a o.contexts
 
-still_after : (o : Owner) (e : Entry) (a : ℕ) → rule_against o e ≡ None → IsStill o a → IsStill (after o e) a
+pub still_after : (o : Owner) (e : Entry) (a : ℕ) → rule_against o e ≡ None → IsStill o a → IsStill (after o e) a
 still_after o (Cancel b id) a h still_o = λ st. ((still_o (same_phase _ o.adapters (adapter_of o b.0) a (λ row. refl) st)).0, refl)
 still_after o (Event b m bytes taken) a h still_o = λ st. ((still_o (same_phase _ o.adapters (adapter_of o b.0) a (λ row. refl) st)).0, refl)
 still_after o (Hand k) a h still_o = λ st. ((still_o st).0, handed_wants o.next a (still_o st).1)
@@ -237,7 +237,7 @@ still_now o n log a (Breaches m l c eax rest h more) still_o = still_now _ n res
 -- ---- what does not stand
 
 -- in a call of that adapter's
-calls_run : (o : Owner) (a import : ℕ) → in_call o a import ≡ true → how_many o any_handler a ≡ 0 → ⊥
+pub calls_run : (o : Owner) (a import : ℕ) → in_call o a import ≡ true → how_many o any_handler a ≡ 0 → ⊥
 calls_run o a import is none = not_true (not (count_by (calls a import) o.contexts == 0)) is (is_none (count_by (calls a import) o.contexts) (omega (arith, fewer o.contexts, none)))
   where
     is_none : (n : ℕ) → n ≡ 0 → not (n == 0) ≡ false

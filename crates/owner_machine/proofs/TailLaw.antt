@@ -23,7 +23,7 @@ use Rattle.owner_machine.proofs.RequestLaw.{no_request}
 no_loan : Loan
 no_loan = record { adapter = record { 0 = 0 }; holders = nobody; place = Home }
 
-after_false : {A : Type 0} (p : A → Bool) (f : A → A) (rows : List A) (k : ℕ) → ((row : A) → p (f row) ≡ false) → at p (change f rows k) k ≡ false
+pub after_false : {A : Type 0} (p : A → Bool) (f : A → A) (rows : List A) (k : ℕ) → ((row : A) → p (f row) ≡ false) → at p (change f rows k) k ≡ false
 after_false p f [] k w = refl
 after_false p f (row ∷ rows) zero w = w row
 after_false p f (row ∷ rows) (suc k) w = after_false p f rows k w

@@ -1,5 +1,5 @@
 -- Laws of the owner machine. Each record is the contract of a function of src/laws.rt that does nothing.
-use Rattle.std.specs.Prelude.{◌≡◌, ◌≢◌, ℕ, ◌+◌, ◌≤◌, ◌<◌, Bool, true, false, ◌&&◌, ◌==◌, cond, List, [], ◌∷◌, length, Some, None, count_by}
+use Rattle.std.specs.Prelude.{◌||◌, ◌≡◌, ◌≢◌, ℕ, ◌+◌, ◌≤◌, ◌<◌, Bool, true, false, ◌&&◌, ◌==◌, cond, List, [], ◌∷◌, length, Some, None, count_by}
 use Rattle.nd_base.specs.declared.numbers.AdapterNo.{AdapterNo}
 use Rattle.nd_base.specs.declared.numbers.BindingNo.{BindingNo}
 use Rattle.nd_base.specs.declared.numbers.CtxNo.{CtxNo}
@@ -9,11 +9,15 @@ use Rattle.log_fields.specs.declared.field_values.Handler.{Handler}
 use Rattle.log_fields.specs.declared.write.Write.{Write}
 use Rattle.call_log.specs.declared.entry.Entry.{Entry}
 use Rattle.call_log.specs.declared.entry.Entry.TheVariants as entries
+use Rattle.owner_machine.specs.declared.rows.Packet.{Packet}
+use Rattle.owner_machine.specs.declared.rows.Request.{Request}
+use Rattle.owner_machine.specs.declared.rows.Next.{Next}
+use Rattle.owner_machine.specs.declared.rows.Next.TheVariants.{Tail}
 use Rattle.owner_machine.specs.State.{Owner, at, phase_is, is_stopped, bound, adapter_of}
 use Rattle.owner_machine.specs.Contexts.{how_many, is_serial, is_halt, any_handler, runs, serialized}
-use Rattle.owner_machine.specs.Packets.{out, packet_adapter}
-use Rattle.owner_machine.specs.Loans.{away, is_away, is_due, is_named, has_holder, lent}
-use Rattle.owner_machine.specs.Requests.{unanswered, request_adapter}
+use Rattle.owner_machine.specs.Packets.{out, packet_adapter, is_queue, is_miniport}
+use Rattle.owner_machine.specs.Loans.{away, away_of, is_away, is_due, is_named, has_holder, lent}
+use Rattle.owner_machine.specs.Requests.{unanswered, request_adapter, is_asked, is_handed}
 use Rattle.owner_machine.specs.Handlers.{outstanding, stays_bound, nothing_waits}
 use Rattle.owner_machine.specs.Must.{Due, serves, tail}
 use Rattle.owner_machine.specs.Machine.{rule_against, after}
@@ -133,7 +137,24 @@ is_adapters o a (entries.ResetEnd adapter _) = adapter.0 == a
 is_adapters o a (entries.Stop adapter _) = adapter.0 == a
 is_adapters o a _ = false
 
+-- what a stop leaves nothing of: packets in the queue or at the miniport, loans that are away, requests that wait or were handed
+abbrev pub kept_of : ℕ → Packet → Bool
+kept_of a p = (is_queue p.place || is_miniport p.place) && (p.adapter.0 == a)
+
+abbrev pub waits_of : ℕ → Request → Bool
+waits_of a r = (is_asked r.place || is_handed r.place) && (r.adapter.0 == a)
+
+abbrev pub left_over : Owner → ℕ → ℕ
+left_over o a = count_by (kept_of a) o.packets + count_by (away_of a) o.loans + count_by (waits_of a) o.requests
+
+-- the adapter was stopped, and its tail may go on
+abbrev pub in_tail : Next → ℕ → Bool
+in_tail (Tail adapter) a = adapter.0 == a
+in_tail _ a = false
+
 pub record StopLaws : Type 0 where
+  -- behind the tail of a stopped adapter nothing of it is left but what is refused: its packets and requests end as they come
+  pub finished : (adapters : ℕ) (drivers : List AdapterNo) (log : List Entry) (o : Owner) (a : ℕ) → Legal (start adapters drivers) log o → phase_is is_stopped o a ≡ true → in_tail o.next a ≡ false → left_over o a ≡ 0
   -- behind the stop of an adapter stands no entry of it: what is left are its tail and its drivers' entries
   pub quiet : (adapters : ℕ) (drivers : List AdapterNo) (log : List Entry) (o : Owner) (a : ℕ) (e : Entry) → Legal (start adapters drivers) log o → rule_against o e ≡ None → phase_is is_stopped o a ≡ true → is_adapters o a e ≡ false
   -- each entry of the tail ends one thing that is outstanding

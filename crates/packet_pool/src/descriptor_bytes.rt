@@ -5,6 +5,8 @@ ghost use Rattle.std.specs.FinMap as map;
 ghost use Rattle.nd_base.specs.Layout.{width_of, limit, object_of, offset_of};
 ghost use Rattle.nd_mem.specs.Space.{put_from};
 ghost use Rattle.packet_pool.specs.DescriptorBytes.{with_bytes, packet_bytes, buffer_bytes, HasGuestPool};
+ghost use Rattle.packet_pool.specs.LiveSet.{descriptor_size};
+ghost use Rattle.packet_pool.specs.declared.states.Kind.TheVariants.{Packet, Buffer};
 ghost use Rattle.guest_map.specs.Regions.{region, IsInside};
 ghost use Rattle.guest_map.specs.Regions as guest;
 
@@ -65,6 +67,20 @@ pub(crate) fn buffer_bytes(layout: &Layout, at: Addr, count: u32) -> [u8; BUFFER
     put(&mut bytes, layout, Field::BufferCount, &count.to_le_bytes());
     put(&mut bytes, layout, Field::BufferOffset, &offset);
     bytes
+}
+
+/// A new packet is written as 128 bytes, those of its descriptor.
+pub fn packet_size(layout: &Layout)
+    ensures { length (packet_bytes layout.now) ≡ descriptor_size Packet }
+{
+    let _bytes = packet_bytes(layout);
+}
+
+/// A new buffer is written as 32 bytes, those of its descriptor.
+pub fn buffer_size(layout: &Layout, at: Addr, count: u32)
+    ensures { length (buffer_bytes layout.now at.0 count) ≡ descriptor_size Buffer }
+{
+    let _bytes = buffer_bytes(layout, at, count);
 }
 
 /// Writes a new descriptor into the guest pool.

@@ -10,6 +10,7 @@ mod pool_laws;
 mod pools;
 mod states;
 
+pub use descriptor_bytes::{buffer_size, packet_size};
 pub use pool_laws::{free_laws, live_laws, room_laws};
 pub use pools::Pools;
 pub use states::{Descriptor, Kind, Pool, PoolRefusal};

@@ -1,0 +1,14 @@
+pub mod Answers
+pub mod Blocks
+pub mod Completions
+pub mod Configuration
+pub mod Descriptors
+pub mod Levels
+pub mod Outcomes
+pub mod Ports
+pub mod Registration
+pub mod Resources
+pub mod Runtime
+pub mod Statuses
+pub mod Timers
+pub mod World

@@ -1,0 +1,5 @@
+//! Tests of import_slots.
+#![tactic(auto)]
+
+#[cfg(test)]
+mod tests;

@@ -23,8 +23,9 @@ pub fn handler_laws()
     ensures { HandlerLaws }
 {}
 
-/// Behind the stop of an adapter stand its tail and its drivers' entries alone; each entry of the tail
-/// ends one thing that is outstanding, until nothing is.
+/// Behind the stop of an adapter stands no entry of its miniport, its handlers or its card; each entry
+/// of the tail ends one thing that is outstanding, until nothing is; and behind the tail nothing is left
+/// of its packets, loans and requests but what is refused.
 pub fn stop_laws()
     ensures { StopLaws }
 {}

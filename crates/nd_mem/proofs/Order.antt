@@ -10,7 +10,7 @@ use Rattle.nd_mem.specs.declared.Rights.{Rights}
 use Rattle.nd_mem.specs.declared.regions.Region.{Region}
 use Rattle.nd_mem.specs.Cell.{Cell, zero_cell}
 use Rattle.nd_mem.specs.Regions.{holds, cell_in, cells_of, end_of, AreLaidOut}
-use Rattle.nd_mem.proofs.RegionList.{end_before, has_byte, cells_of-own, holds-within, holds-outside}
+use Rattle.nd_mem.proofs.RegionList.{end_before, has_byte, cells_of-own, holds-true, holds-within, holds-outside}
 
 -- ---- the search
 pub firsts_rise : (regions : List Region) → AreLaidOut regions → IsNonDecreasingBy (λ (region : Region). region.first.0) regions
@@ -45,11 +45,13 @@ unheld_behind : (regions : List Region) (a n k : ℕ) (d : Region) → Begun reg
 unheld_behind regions a n k d begun late inside =
     holds-outside (get_or regions k d) a (λ low. absurd (omega (arith, low, begun.1 k d late inside)))
 
-pub held_by_last : (regions : List Region) (a n : ℕ) (d : Region) → AreLaidOut regions → n ≤ length regions → Begun regions a n → 0 < n → holds (get_or regions (n - 1) d) a ≡ true → Some (n - 1) ≡ position (λ (region : Region). holds region a) regions
-held_by_last regions a n d laid_out most begun some here =
+-- whichever region holds an address is the first that does
+pub held_by : (regions : List Region) (a i : ℕ) (d : Region) → AreLaidOut regions → i < length regions → holds (get_or regions i d) a ≡ true → Some i ≡ position (λ (region : Region). holds region a) regions
+held_by regions a i d laid_out inside here =
+    let low = (holds-true (get_or regions i d) a here).0 in
     sym (position_from-zero (λ (region : Region). holds region a) regions
-    ∙ position_at regions a (n - 1) 0 d (omega arith) here (λ k less. unheld_before regions a n k d laid_out most begun (omega arith))
-    ∙ ap Some (let e : n - 1 + 0 ≡ n - 1 = omega arith in e))
+    ∙ position_at regions a i 0 d inside here (λ k less. holds-outside (get_or regions k d) a (λ _. omega (arith, end_before regions k i d laid_out less inside, low)))
+    ∙ ap Some (let e : i + 0 ≡ i = omega arith in e))
 
 pub held_by_none : (regions : List Region) (a n : ℕ) → AreLaidOut regions → n ≤ length regions → Begun regions a n → ((d : Region) → 0 < n → holds (get_or regions (n - 1) d) a ≡ false) → None ≡ position (λ (region : Region). holds region a) regions
 held_by_none regions a n laid_out most begun last =

@@ -62,6 +62,12 @@ pub executable_of_none : (cells : Cells) (a n : ℕ) → n ≡ 0 → executable_
 unfolding executable_run
 executable_of_none cells a n none = ap (executable_run cells a) none
 
+-- a run of n bytes or more can be executed that far
+pub executable_whole : (cells : Cells) (a : ℕ) (run : List ℕ) (n : ℕ) → IsRun Executing cells a run → n ≤ length run → executable_run cells a n ≡ n
+executable_whole cells a run n is fits =
+    executable_behind cells a run n 0 n is fits (let e : n ≡ n + 0 = omega arith in e)
+    ∙ ap (λ r. n + r) (executable_of_none cells (a + n) 0 refl) ∙ omega arith
+
 run_after_le : (fault : Option MemFault) (r n : ℕ) → r ≤ n → run_after fault r ≤ suc n
 run_after_le None r n le = omega arith
 run_after_le (Some fault) r n le = omega arith

@@ -1,5 +1,5 @@
 //! Guest memory: a finite map from addresses to a byte and its rights, kept as a list of regions by rising addresses,
-//! in which an address is found by halving.
+//! in which an address is found by halving, or at once in the region that was found last.
 #![tactic(auto)]
 
 ghost use Rattle.std.specs.Prelude.{◌≡◌, ℕ, ◌+◌, ◌-◌, ◌≤◌, ◌<◌, ◌++◌, length, take, drop, IfOk, IfErr, OnOk, OnErr, ◌^◌, min, Ok, Err, Some, None, ◌≢◌};
@@ -10,6 +10,7 @@ ghost use Rattle.nd_mem.specs.Space.{IsLow, first_fault, answer_of, bytes_from, 
 use nd_base::Addr;
 use regions::Region;
 use std::alloc::Global;
+use std::cell::Cell;
 use std::marker::Model;
 
 mod regions;
@@ -54,6 +55,10 @@ pub enum RegionRefusal {
 #[derive(Drop)]
 pub struct Memory {
     regions: Vec<Region>,
+    /// The index of the region that was fetched from last, and of the one of the last other access.
+    /// Either is a guess, which is asked before it is taken.
+    fetched: Cell<usize>,
+    accessed: Cell<usize>,
 }
 
 impl Model for Memory {
@@ -88,6 +93,8 @@ impl Memory {
     {
         Memory {
             regions: Vec::new(alloc),
+            fetched: Cell::new(0),
+            accessed: Cell::new(0),
         }
     }
 
@@ -143,7 +150,7 @@ impl Memory {
     pub fn fault(&self, purpose: Purpose, at: Addr, len: u32) -> Option<MemFault>
         ensures { result ≡ first_fault (access_of purpose) (map.get self.now) at.0 len }
     {
-        regions::fault_of_runs(&self.regions, purpose, at, len)
+        regions::fault_of_runs(&self.regions, &self.accessed, purpose, at, len)
     }
 
     /// Reads the bytes from `at` on into `out`. Addresses go on from 0xFFFFFFFF at 0.
@@ -153,7 +160,7 @@ impl Memory {
         ensures err { OnErr result (out.new ≡ out.old) }
         ensures low { IsLow (map.get self.now) }
     {
-        regions::read_runs(&self.regions, at, out)
+        regions::read_runs(&self.regions, &self.accessed, at, out)
     }
 
     /// Writes the bytes from `at` on, where each may be written.
@@ -163,7 +170,7 @@ impl Memory {
         ensures err { OnErr result (self.new ≡ self.old) }
         ensures low { IsLow (map.get self.new) }
     {
-        regions::write_runs(&mut self.regions, Purpose::Write, at, bytes)
+        regions::write_runs(&mut self.regions, &self.accessed, Purpose::Write, at, bytes)
     }
 
     /// Writes the bytes from `at` on, whatever the rights there.
@@ -173,7 +180,7 @@ impl Memory {
         ensures err { OnErr result (self.new ≡ self.old) }
         ensures low { IsLow (map.get self.new) }
     {
-        regions::write_runs(&mut self.regions, Purpose::Place, at, bytes)
+        regions::write_runs(&mut self.regions, &self.accessed, Purpose::Place, at, bytes)
     }
 
     /// Reads into the front of `out` the bytes from `at` on that can be executed, and answers how
@@ -185,7 +192,11 @@ impl Memory {
         ensures err { OnErr result (out.new ≡ out.old) }
         ensures low { IsLow (map.get self.now) }
     {
-        let run = regions::run_from(&self.regions, Purpose::Execute, at)?;
-        Ok(regions::fetch_runs(&self.regions, at, run, out))
+        let run = regions::run_from(&self.regions, &self.fetched, Purpose::Execute, at)?;
+        if let Some(code) = run.first_chunk::<15>() {
+            *out = *code;
+            return Ok(15);
+        }
+        Ok(regions::fetch_runs(&self.regions, &self.fetched, at, run, out))
     }
 }

@@ -10,6 +10,7 @@ ghost use Rattle.nd_mem.specs.Regions.{holds, cells_of, AreLaidOut, shapes, acce
 use crate::{MemFault, Rights};
 use nd_base::Addr;
 use std::alloc::{AllocError, Global};
+use std::cell::Cell;
 
 /// What an access wants to do with each byte. To place a byte asks for no right.
 #[derive(Clone, Copy)]
@@ -108,7 +109,7 @@ pub fn count_begun(regions: &[Region], at: Addr) -> usize
 }
 
 /// The index of the region that holds an address: it is the last that begins there or below.
-fn holder_of(regions: &[Region], at: Addr) -> Option<usize>
+fn last_begun(regions: &[Region], at: Addr) -> Option<usize>
     requires { AreLaidOut regions.now }
     ensures { result ≡ position (λ region. holds region at.0) regions.now }
 {
@@ -120,13 +121,35 @@ fn holder_of(regions: &[Region], at: Addr) -> Option<usize>
     }
 }
 
+/// The index of the region that holds an address. The one that was found last is asked first, and
+/// whichever is found is kept for the next time.
+fn holder_of(regions: &[Region], last: &Cell<usize>, at: Addr) -> Option<usize>
+    requires { AreLaidOut regions.now }
+    ensures { result ≡ position (λ region. holds region at.0) regions.now }
+{
+    let index = last.get();
+    if index < regions.len() && regions[index].holds(at) {
+        return Some(index);
+    }
+    let found = last_begun(regions, at);
+    if let Some(index) = found {
+        last.set(index);
+    }
+    found
+}
+
 /// Where an address stands, if the access may have its byte.
-fn spot_of(regions: &[Region], purpose: Purpose, at: Addr) -> Result<Spot, MemFault>
+fn spot_of(
+    regions: &[Region],
+    last: &Cell<usize>,
+    purpose: Purpose,
+    at: Addr,
+) -> Result<Spot, MemFault>
     requires { AreLaidOut regions.now }
     ensures ok { IfOk result (IsSpot (access_of purpose) regions.now at.0) }
     ensures err { IfErr result (λ fault. fault_at (access_of purpose) (cells_of regions.now) at.0 ≡ Some fault) }
 {
-    let Some(index) = holder_of(regions, at) else {
+    let Some(index) = holder_of(regions, last, at) else {
         return Err(MemFault::Unmapped(at));
     };
     let region = &regions[index];
@@ -138,17 +161,27 @@ fn spot_of(regions: &[Region], purpose: Purpose, at: Addr) -> Result<Spot, MemFa
 }
 
 /// The bytes from an address on up to the end of its region.
-pub fn run_from(regions: &[Region], purpose: Purpose, at: Addr) -> Result<&[u8], MemFault>
+pub fn run_from<'a>(
+    regions: &'a [Region],
+    last: &Cell<usize>,
+    purpose: Purpose,
+    at: Addr,
+) -> Result<&'a [u8], MemFault>
     requires { AreLaidOut regions.now }
     ensures ok { IfOk result (λ run. IsRun (access_of purpose) (cells_of regions.now) at.0 run.now) }
     ensures err { IfErr result (λ fault. fault_at (access_of purpose) (cells_of regions.now) at.0 ≡ Some fault) }
 {
-    let spot = spot_of(regions, purpose, at)?;
+    let spot = spot_of(regions, last, purpose, at)?;
     Ok(&regions[spot.region].bytes[spot.offset..])
 }
 
 /// Reads the bytes from an address on.
-pub fn read_runs(regions: &[Region], at: Addr, out: &mut [u8]) -> Result<(), MemFault>
+pub fn read_runs(
+    regions: &[Region],
+    last: &Cell<usize>,
+    at: Addr,
+    out: &mut [u8],
+) -> Result<(), MemFault>
     requires { AreLaidOut regions.now }
     ensures answer { result ≡ answer_of tt (first_fault Reading (cells_of regions.now) at.0 (length out.old)) }
     ensures ok { OnOk result (out.new ≡ bytes_from (cells_of regions.now) at.0 (length out.old)) }
@@ -157,26 +190,32 @@ pub fn read_runs(regions: &[Region], at: Addr, out: &mut [u8]) -> Result<(), Mem
     if out.is_empty() {
         return Ok(());
     }
-    let run = run_from(regions, Purpose::Read, at)?;
+    let run = run_from(regions, last, Purpose::Read, at)?;
     let count = run.len().min(out.len());
     let (here, rest) = out.split_at_mut(count);
-    read_runs(regions, Addr(at.0 + count as u32), rest)?;
+    read_runs(regions, last, Addr(at.0 + count as u32), rest)?;
     here.copy_from_slice(&run[..count]);
     Ok(())
 }
 
 /// The fault at the first of the bytes from an address on that the access may not have.
-pub fn fault_of_runs(regions: &[Region], purpose: Purpose, at: Addr, len: u32) -> Option<MemFault>
+pub fn fault_of_runs(
+    regions: &[Region],
+    last: &Cell<usize>,
+    purpose: Purpose,
+    at: Addr,
+    len: u32,
+) -> Option<MemFault>
     requires { AreLaidOut regions.now }
     ensures { result ≡ first_fault (access_of purpose) (cells_of regions.now) at.0 len }
 {
     if len == 0 {
         return None;
     }
-    match run_from(regions, purpose, at) {
+    match run_from(regions, last, purpose, at) {
         Ok(run) => {
             let count = run.len().min(len as usize) as u32;
-            fault_of_runs(regions, purpose, Addr(at.0 + count), len - count)
+            fault_of_runs(regions, last, purpose, Addr(at.0 + count), len - count)
         }
         Err(fault) => Some(fault),
     }
@@ -184,7 +223,13 @@ pub fn fault_of_runs(regions: &[Region], purpose: Purpose, at: Addr, len: u32) -
 
 /// Reads a run that is found already, and what can be executed of the bytes behind it. Answers
 /// how many bytes that are.
-pub fn fetch_runs(regions: &[Region], at: Addr, run: &[u8], out: &mut [u8]) -> usize
+pub fn fetch_runs(
+    regions: &[Region],
+    last: &Cell<usize>,
+    at: Addr,
+    run: &[u8],
+    out: &mut [u8],
+) -> usize
     requires laid_out { AreLaidOut regions.now }
     requires run { IsRun Executing (cells_of regions.now) at.0 run.now }
     ensures count { result ≡ executable_run (cells_of regions.now) at.0 (length out.old) }
@@ -198,8 +243,8 @@ pub fn fetch_runs(regions: &[Region], at: Addr, run: &[u8], out: &mut [u8]) -> u
         return count;
     }
     let next = Addr(at.0 + count as u32);
-    match run_from(regions, Purpose::Execute, next) {
-        Ok(more) => count + fetch_runs(regions, next, more, rest),
+    match run_from(regions, last, Purpose::Execute, next) {
+        Ok(more) => count + fetch_runs(regions, last, next, more, rest),
         Err(_) => count,
     }
 }
@@ -207,6 +252,7 @@ pub fn fetch_runs(regions: &[Region], at: Addr, run: &[u8], out: &mut [u8]) -> u
 /// Writes the bytes from an address on.
 pub fn write_runs(
     regions: &mut [Region],
+    last: &Cell<usize>,
     purpose: Purpose,
     at: Addr,
     bytes: &[u8],
@@ -221,9 +267,15 @@ pub fn write_runs(
     if bytes.is_empty() {
         return Ok(());
     }
-    let spot = spot_of(regions, purpose, at)?;
+    let spot = spot_of(regions, last, purpose, at)?;
     let count = (regions[spot.region].bytes.len() - spot.offset).min(bytes.len());
-    write_runs(regions, purpose, Addr(at.0 + count as u32), &bytes[count..])?;
+    write_runs(
+        regions,
+        last,
+        purpose,
+        Addr(at.0 + count as u32),
+        &bytes[count..],
+    )?;
     regions[spot.region].put(spot.offset, &bytes[..count]);
     Ok(())
 }

@@ -14,10 +14,10 @@ use nd_base::{Addr, Field, Layout};
 use nd_mem::{Memory, fault_laws};
 
 /// How many bytes a packet descriptor has.
-pub(crate) const PACKET_BYTES: usize = 128;
+pub const PACKET_BYTES: usize = 128;
 
 /// How many bytes a buffer descriptor has.
-pub(crate) const BUFFER_BYTES: usize = 32;
+pub const BUFFER_BYTES: usize = 32;
 
 /// Where a packet's out-of-band part stands.
 const OUT_OF_BAND: u16 = 72;
@@ -40,7 +40,7 @@ fn put(bytes: &mut [u8], layout: &Layout, field: Field, new: &[u8])
 
 /// The bytes of a new packet.
 #[tactic(auto, unfolding(crate::specs::DescriptorBytes::packet_bytes, nd_base::specs::Layout::row, nd_base::specs::Layout::rows))]
-pub(crate) fn packet_bytes(layout: &Layout) -> [u8; PACKET_BYTES]
+pub fn packet_bytes(layout: &Layout) -> [u8; PACKET_BYTES]
     ensures { result ≡ packet_bytes layout.now }
 {
     let mut bytes = [0; PACKET_BYTES];
@@ -51,7 +51,7 @@ pub(crate) fn packet_bytes(layout: &Layout) -> [u8; PACKET_BYTES]
 
 /// The bytes of a new buffer for so many bytes at an address.
 #[tactic(auto, unfolding(crate::specs::DescriptorBytes::buffer_bytes, nd_base::specs::Layout::row, nd_base::specs::Layout::rows))]
-pub(crate) fn buffer_bytes(layout: &Layout, at: Addr, count: u32) -> [u8; BUFFER_BYTES]
+pub fn buffer_bytes(layout: &Layout, at: Addr, count: u32) -> [u8; BUFFER_BYTES]
     ensures { result ≡ buffer_bytes layout.now at.0 count }
 {
     let size = (BUFFER_BYTES as u16).to_le_bytes();

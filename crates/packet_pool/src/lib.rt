@@ -10,7 +10,9 @@ mod pool_laws;
 mod pools;
 mod states;
 
-pub use descriptor_bytes::{buffer_size, packet_size};
+pub use descriptor_bytes::{
+    BUFFER_BYTES, PACKET_BYTES, buffer_bytes, buffer_size, packet_bytes, packet_size,
+};
 pub use pool_laws::{free_laws, live_laws, room_laws};
 pub use pools::Pools;
 pub use states::{Descriptor, Kind, Pool, PoolRefusal};

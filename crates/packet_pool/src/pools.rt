@@ -149,8 +149,9 @@ impl Pools {
         Ok(())
     }
 
-    /// A descriptor of a pool: its address.
-    fn take_descriptor(&mut self, kind: Kind, pool: u32) -> Result<Addr, PoolRefusal>
+    /// A descriptor of a pool: its address. Nothing is written there yet: `packet_bytes` and
+    /// `buffer_bytes` are what a new one holds.
+    pub fn take_descriptor(&mut self, kind: Kind, pool: u32) -> Result<Addr, PoolRefusal>
         ensures live { Allocates self.old kind pool result self.new }
         ensures inside { IfOk result (λ at. IsInside (region at.0 (descriptor_size kind)) guest.pool) }
     {

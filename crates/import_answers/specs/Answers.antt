@@ -1,12 +1,11 @@
 -- What each import answers: a row each, in the order of their numbers, and what a call may answer by its row.
-use Rattle.std.specs.Prelude.{◌≡◌, ℕ, ◌-◌, true, false, ◌&&◌, nat_le, List, [], ◌∷◌, slice_index_or}
-use Rattle.nd_base.specs.declared.numbers.CtxNo.{CtxNo}
+use Rattle.std.specs.Prelude.{ℕ, ◌-◌, true, false, ◌&&◌, nat_le, List, [], ◌∷◌, length, slice_index_or}
 use Rattle.irql_lock.specs.LockState.{level_of}
 use Rattle.packet_pool.specs.declared.states.Kind.TheVariants.{Packet, Buffer}
-use Rattle.packet_pool.specs.LiveMoves.{MakeBlock, Allocate, may}
 use Rattle.import_table.specs.Table.{Row}
-use Rattle.import_answers.specs.World.{World, Caller}
-use Rattle.import_answers.specs.Outcomes.{Outcome, Breaks, Replies, Picks, PicksDescriptor, Spins, Sleeps, Synchronizes, Reply, asks}
+use Rattle.guest_world.specs.declared.world.World.{World}
+use Rattle.guest_world.specs.declared.answer.Caller.{Caller}
+use Rattle.import_answers.specs.Outcomes.{Outcome, Breaks, arguments_rule, asks}
 use Rattle.import_answers.specs.Registration.{initialize_wrapper, terminate_wrapper, register_miniport, set_attributes}
 use Rattle.import_answers.specs.Configuration.{open_configuration, read_configuration, close_configuration, read_network_address, query_resources}
 use Rattle.import_answers.specs.Resources.{register_ports, deregister_ports, register_interrupt, deregister_interrupt, synchronize}
@@ -90,35 +89,14 @@ answering =
     ∷ []
 
 abbrev pub none_such : Answering
-none_such w x words = Breaks 9
+none_such w x words = Breaks arguments_rule
 
 -- a call at a level outside its range
 abbrev pub level_rule : ℕ
 level_rule = 5
 
--- what comes of a call of the import in this row
+-- what comes of a call of the import in this row, with the words that could be read of it: one that lacks a word breaks the rule on arguments
 abbrev pub outcome : World → Caller → Row → List ℕ → Outcome
 outcome w x row words =
     asks (nat_le row.low (level_of w.levels x.context) && nat_le (level_of w.levels x.context) row.high) level_rule
-    (slice_index_or answering (row.import - 1) none_such w x words)
-
--- ---- what a call answers
-
-pub data Answered : Type 0 where
-  Broke : ℕ → Answered
-  Now : Reply → Answered
-  Spin : CtxNo → Answered
-  Sleep : ℕ → Answered
-  Sync : Answered
-
--- the answer, and the world after it, are those of the outcome; where the library may pick an address, they are those of one that it may pick
-abbrev pub Comes : Outcome → World → Answered → World → Type 0
-Comes (Breaks rule) w (Broke broken) after = (broken ≡ rule) × (after ≡ w)
-Comes (Replies reply world) w (Now given) after = (given ≡ reply) × (after ≡ world)
-Comes (Picks n reply world) w (Now given) after = (a : ℕ) × (may w.live (MakeBlock n a) ≡ true) × (given ≡ reply a) × (after ≡ world a)
-Comes (PicksDescriptor kind handle reply world) w (Now given) after =
-    (a : ℕ) × (may w.live (Allocate kind handle a) ≡ true) × (given ≡ reply a) × (after ≡ world a)
-Comes (Spins holder world) w (Spin other) after = (other ≡ holder) × (after ≡ world)
-Comes (Sleeps moment) w (Sleep wake) after = (wake ≡ moment) × (after ≡ w)
-Comes Synchronizes w Sync after = after ≡ w
-Comes _ w _ after = ⊥
+    (asks (nat_le row.words (length words)) arguments_rule (slice_index_or answering (row.import - 1) none_such w x words))

@@ -7,15 +7,16 @@ use Rattle.log_fields.specs.declared.write.Write.{Write}
 use Rattle.packet_pool.specs.LiveSet.{first_free}
 use Rattle.packet_pool.specs.LiveMoves.{MakeBlock, FreeBlock, may, after}
 use Rattle.import_answers.specs.Statuses.{success, failure}
-use Rattle.import_answers.specs.World.{World, word}
+use Rattle.guest_world.specs.declared.world.World.{World}
+use Rattle.import_answers.specs.World.{word}
 use Rattle.import_answers.specs.Outcomes.{Outcome, Picks, Replies, arguments_rule, live_rule, asks, can_read, can_write, written, word_written, plain, done}
 
 -- whether a block of so many bytes has room in the guest pool; one of no bytes takes one
 abbrev pub has_room : World → ℕ → Bool
-has_room w length = is_some (first_free w.live (max length 1))
+has_room w length = is_some (first_free w.pools (max length 1))
 
 abbrev pub with_block : World → ℕ → ℕ → World
-with_block w length a = record w { live = after w.live (MakeBlock length a) }
+with_block w length a = record w { pools = after w.pools (MakeBlock length a) }
 
 -- ---- NdisAllocateMemoryWithTag(address, length, tag)
 abbrev pub zeros : ℕ → List ℕ
@@ -35,7 +36,7 @@ allocate_memory w words =
 
 -- ---- NdisFreeMemory(address, length, flags)
 abbrev pub free_memory : World → List ℕ → Outcome
-free_memory w words = asks (may w.live (FreeBlock (word words 1))) live_rule (done (record w { live = after w.live (FreeBlock (word words 1)) }))
+free_memory w words = asks (may w.pools (FreeBlock (word words 1))) live_rule (done (record w { pools = after w.pools (FreeBlock (word words 1)) }))
 
 -- ---- memcpy(to, from, n) and memset(to, byte, n)
 

@@ -4,7 +4,9 @@
 -- EthFilterDprIndicateReceive, EthFilterDprIndicateReceiveComplete, NdisReadPciSlotInformation, NdisWriteErrorLogEntry.)
 use Rattle.std.specs.Prelude.{ℕ, ◌*◌, ◌&&◌, List}
 use Rattle.packet_pool.specs.declared.states.Kind.TheVariants.{Packet}
-use Rattle.import_answers.specs.World.{World, Caller, word, is_adapter_handle}
+use Rattle.guest_world.specs.declared.world.World.{World}
+use Rattle.guest_world.specs.declared.answer.Caller.{Caller}
+use Rattle.import_answers.specs.World.{word, is_adapter_handle}
 use Rattle.import_answers.specs.Outcomes.{Outcome, Breaks, arguments_rule, live_rule, limit_rule, asks, can_read, done}
 use Rattle.import_answers.specs.Descriptors.{is_live}
 

@@ -14,15 +14,16 @@ use Rattle.packet_pool.specs.LiveSet.{LiveSet, pool_of, is_out}
 use Rattle.packet_pool.specs.LiveMoves.{LiveMove, MakePool, FreePool, Allocate, Free, may, after, pool_refusal, new_handle, is_pool_of, is_full_pool}
 use Rattle.packet_pool.specs.DescriptorBytes.{packet_bytes, buffer_bytes}
 use Rattle.import_answers.specs.Statuses.{success, resources}
-use Rattle.import_answers.specs.World.{World, word}
+use Rattle.guest_world.specs.declared.world.World.{World}
+use Rattle.import_answers.specs.World.{word}
 use Rattle.import_answers.specs.Outcomes.{Outcome, PicksDescriptor, arguments_rule, live_rule, asks, can_read, can_write, word_of, field_of, written, word_written, plain, done, writes}
 
 abbrev pub with_live : World → LiveSet → World
-with_live w live = record w { live = live }
+with_live w live = record w { pools = live }
 
 -- a move that frees: it may be made, or what is named is not live
 abbrev pub frees : World → LiveMove → Outcome
-frees w m = asks (may w.live m) live_rule (done (with_live w (after w.live m)))
+frees w m = asks (may w.pools m) live_rule (done (with_live w (after w.pools m)))
 
 -- a status at the first word, and a number at the second
 abbrev pub status_and : List ℕ → ℕ → ℕ → List Write
@@ -32,11 +33,11 @@ status_and words status value = word_written (word words 1) status ∷ word_writ
 
 abbrev pub given_pool : World → Kind → List ℕ → Option PoolRefusal → Outcome
 given_pool w kind words (Some refusal) = writes w (status_and words resources 0)
-given_pool w kind words None = writes (with_live w (after w.live (MakePool kind (word words 3)))) (status_and words success (new_handle w.live))
+given_pool w kind words None = writes (with_live w (after w.pools (MakePool kind (word words 3)))) (status_and words success (new_handle w.pools))
 
 abbrev pub allocate_pool : World → Kind → List ℕ → Outcome
 allocate_pool w kind words =
-    asks (can_write w (word words 1) 4 && can_write w (word words 2) 4) arguments_rule (given_pool w kind words (pool_refusal w.live kind (word words 3)))
+    asks (can_write w (word words 1) 4 && can_write w (word words 2) 4) arguments_rule (given_pool w kind words (pool_refusal w.pools kind (word words 3)))
 
 -- ---- NdisFreePacketPool(handle), NdisFreeBufferPool(handle): each frees a pool of either kind
 abbrev pub free_pool : World → List ℕ → Outcome
@@ -51,11 +52,11 @@ descriptor_bytes w Buffer words = buffer_bytes w.layout (word words 4) (word wor
 abbrev pub allocate_descriptor : World → Kind → List ℕ → Outcome
 allocate_descriptor w kind words =
     asks (can_write w (word words 1) 4 && can_write w (word words 2) 4) arguments_rule
-    (asks (is_pool_of kind (pool_of w.live (word words 3))) live_rule
-    (if is_full_pool w.live (pool_of w.live (word words 3)) then writes w (status_and words resources 0)
+    (asks (is_pool_of kind (pool_of w.pools (word words 3))) live_rule
+    (if is_full_pool w.pools (pool_of w.pools (word words 3)) then writes w (status_and words resources 0)
     else PicksDescriptor kind (word words 3)
     (λ a. plain 0 (written a (descriptor_bytes w kind words) ∷ status_and words success a))
-    (λ a. with_live w (after w.live (Allocate kind (word words 3) a)))))
+    (λ a. with_live w (after w.pools (Allocate kind (word words 3) a)))))
 
 -- ---- NdisFreePacket(packet), NdisFreeBuffer(buffer)
 abbrev pub free_descriptor : World → Kind → List ℕ → Outcome
@@ -71,7 +72,7 @@ abbrev pub is_in_slot : Kind → ℕ → Bool
 is_in_slot kind a = lies_in send_slots a && (((a - send_slots.first.0) % 0x800) == slot_offset kind)
 
 abbrev pub is_live : World → Kind → ℕ → Bool
-is_live w kind a = is_out w.live kind a || is_in_slot kind a
+is_live w kind a = is_out w.pools kind a || is_in_slot kind a
 
 -- ---- a packet's first buffer, and what a buffer says of itself
 

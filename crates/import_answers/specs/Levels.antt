@@ -7,7 +7,9 @@ use Rattle.nd_base.specs.declared.numbers.CtxNo.{CtxNo}
 use Rattle.nd_mem.specs.Space.{address}
 use Rattle.irql_lock.specs.LockState.{LockState, level_of, holder_of}
 use Rattle.irql_lock.specs.LockMoves.{Raise, Lower, Acquire, Release, Make, Free, moved}
-use Rattle.import_answers.specs.World.{World, Caller, word}
+use Rattle.guest_world.specs.declared.world.World.{World}
+use Rattle.guest_world.specs.declared.answer.Caller.{Caller}
+use Rattle.import_answers.specs.World.{word}
 use Rattle.import_answers.specs.Outcomes.{Outcome, Breaks, Spins, returns}
 
 abbrev pub with_levels : World → LockState → World

@@ -1,22 +1,22 @@
 -- What comes of a call: it breaks a rule, it is answered at once, or it waits. Which addresses of the guest pool a call takes, where the library may
 -- pick one, is left free. (What breaks a rule is the project's own: docs/IMPORTS.md.)
-use Rattle.std.specs.Prelude.{ℕ, Bool, true, false, List, [], is_none}
+use Rattle.std.specs.Prelude.{◌≡◌, ℕ, Bool, true, false, ◌==◌, if◌then◌else◌, List, [], Result, Ok, Err, is_none}
 use Rattle.std.specs.Int.{w16, w32, to_le_bytes, from_le_bytes}
 use Rattle.nd_base.specs.declared.layout_field.Field.{Field}
 use Rattle.nd_base.specs.declared.numbers.CtxNo.{CtxNo}
-use Rattle.nd_mem.specs.Space.{Access, Reading, Writing, address, wrapped, first_fault, bytes_from}
+use Rattle.nd_mem.specs.Space.{Access, Reading, Writing, Cells, address, first_fault, bytes_from}
 use Rattle.log_fields.specs.declared.write.Write.{Write}
 use Rattle.packet_pool.specs.declared.states.Kind.{Kind}
+use Rattle.packet_pool.specs.LiveMoves as live
+use Rattle.packet_pool.specs.LiveMoves.{MakeBlock, Allocate}
 use Rattle.packet_chain.specs.Chain.{word_at, field_at}
-use Rattle.import_answers.specs.World.{World, cells}
-
--- what the caller gets: EAX, what is written to guest memory, in order, what the call costs in microseconds, and the frames that its accesses to a card
--- sent, in order
-pub record Reply : Type 0 where
-  pub eax : ℕ
-  pub writes : List Write
-  pub cost : ℕ
-  pub sent : List (List ℕ)
+use Rattle.guest_world.specs.declared.world.World.{World}
+use Rattle.guest_world.specs.declared.answer.Reply.{Reply}
+use Rattle.guest_world.specs.declared.answer.Answer.{Answer}
+use Rattle.guest_world.specs.declared.answer.Answer.TheVariants.{Now, Spin, Sleep, Sync}
+use Rattle.guest_world.specs.declared.answer.CallRefusal.{CallRefusal}
+use Rattle.guest_world.specs.declared.answer.CallRefusal.TheVariants.{OutOfMemory, Broken}
+use Rattle.import_answers.specs.World.{cells}
 
 pub data Outcome : Type 0 where
   -- the call breaks this rule, and nothing changes
@@ -65,8 +65,8 @@ abbrev pub word_of : World → ℕ → ℕ
 word_of w a = word_at (cells w) a
 
 -- two bytes, low byte first
-abbrev pub half_of : World → ℕ → ℕ
-half_of w a = from_le_bytes w16 (bytes_from (cells w) a 2)
+abbrev pub half_at : Cells → ℕ → ℕ
+half_at cells a = from_le_bytes w16 (bytes_from cells a 2)
 
 -- where a descriptor has a field
 abbrev pub field_of : World → Field → ℕ → ℕ
@@ -75,7 +75,7 @@ field_of w field object = field_at w.layout field object
 -- ---- writes
 
 abbrev pub written : ℕ → List ℕ → Write
-written a bytes = record { at = address (wrapped a); bytes = bytes }
+written a bytes = record { at = address a; bytes = bytes }
 
 abbrev pub word_written : ℕ → ℕ → Write
 word_written a value = written a (to_le_bytes w32 value)
@@ -96,3 +96,24 @@ returns w eax = Replies (plain eax []) w
 -- a call that writes and changes nothing else
 abbrev pub writes : World → List Write → Outcome
 writes w list = Replies (plain 0 list) w
+
+-- the reply of a call that has waited: of NdisMSynchronizeWithInterrupt, import 15, EAX is AL of its function
+abbrev pub resumed : ℕ → ℕ → Reply
+resumed import al = plain (if import == 15 then al else 0) []
+
+-- ---- what a call answers
+
+-- The answer, and the world after it, are those of the outcome; where the library may pick an address, they are those of one that it may pick. Want of
+-- memory comes where no rule is broken, and changes nothing.
+abbrev pub Comes : Outcome → World → Result Answer CallRefusal → World → Type 0
+Comes (Breaks rule) w (Err (Broken broken)) after = (broken.0 ≡ rule) × (after ≡ w)
+Comes (Breaks rule) w _ after = ⊥
+Comes _ w (Err OutOfMemory) after = after ≡ w
+Comes (Replies reply world) w (Ok (Now given)) after = (given ≡ reply) × (after ≡ world)
+Comes (Picks n reply world) w (Ok (Now given)) after = (a : ℕ) × (live.may w.pools (MakeBlock n a) ≡ true) × (given ≡ reply a) × (after ≡ world a)
+Comes (PicksDescriptor kind handle reply world) w (Ok (Now given)) after =
+    (a : ℕ) × (live.may w.pools (Allocate kind handle a) ≡ true) × (given ≡ reply a) × (after ≡ world a)
+Comes (Spins holder world) w (Ok (Spin other)) after = (other ≡ holder) × (after ≡ world)
+Comes (Sleeps moment) w (Ok (Sleep wake)) after = (wake ≡ moment) × (after ≡ w)
+Comes Synchronizes w (Ok Sync) after = after ≡ w
+Comes _ w _ after = ⊥

@@ -1,13 +1,17 @@
 -- Imports 53 to 60: accesses to ports. (Windows DDK, wdm.h: READ_PORT_UCHAR, READ_PORT_USHORT, WRITE_PORT_UCHAR, WRITE_PORT_USHORT and the forms that
 -- move a buffer. A port that no card has reads all ones, as the bus of a PC does, and takes no write.)
-use Rattle.std.specs.Prelude.{ℕ, zero, suc, ◌+◌, ◌-◌, ◌*◌, ◌^◌, ◌&&◌, nat_le, nat_lt, if◌then◌else◌, List, [], ◌∷◌, ◌++◌, take, drop, replicate, slice_index_or, slice_set, Option, None, Some}
+use Rattle.std.specs.Prelude.{ℕ, zero, suc, ◌+◌, ◌-◌, ◌*◌, ◌^◌, ◌&&◌, nat_le, nat_lt, if◌then◌else◌, List, [], ◌∷◌, ◌++◌, take, drop, replicate, slice_index_or, Option, None, Some}
 use Rattle.std.specs.Int.{w32, to_le_bytes}
 use Rattle.nd_mem.specs.Space.{bytes_from}
 use Rattle.dp8390.specs.declared.board.Board.{Board}
 use Rattle.dp8390.specs.Card.{bytes_read, after_read, after_write, after_take, new_card}
-use Rattle.import_answers.specs.World.{World, Caller, cells, word}
+use Rattle.nd_base.specs.declared.numbers.AdapterNo.{AdapterNo}
+use Rattle.guest_world.specs.declared.adapters.Adapter.{Adapter}
+use Rattle.guest_world.specs.declared.world.World.{World}
+use Rattle.guest_world.specs.declared.answer.Caller.{Caller}
+use Rattle.guest_world.specs.Worlds.{adapter_of, with_adapter}
+use Rattle.import_answers.specs.World.{cells, word, hardware_of}
 use Rattle.import_answers.specs.Outcomes.{Outcome, Replies, arguments_rule, asks, can_read, can_write}
-use Rattle.import_answers.specs.Configuration.{hardware_of}
 use Rattle.import_answers.specs.Resources.{ports}
 use Rattle.import_answers.specs.Blocks.{bytes_written, moves}
 
@@ -15,20 +19,22 @@ use Rattle.import_answers.specs.Blocks.{bytes_written, moves}
 abbrev pub offset_in : ℕ → ℕ → Option ℕ
 offset_in first port = if nat_le first port && nat_lt port (first + ports) then Some (port - first) else None
 
-abbrev pub offset_of_port : World → Option ℕ → ℕ → Option ℕ
+abbrev pub offset_of_port : World → Option AdapterNo → ℕ → Option ℕ
 offset_of_port w None port = None
 offset_of_port w (Some a) port = offset_in (hardware_of w (Some a)).port port
 
 abbrev pub no_card : Board
 no_card = new_card []
 
-abbrev pub card_of : World → Option ℕ → Board
-card_of w None = no_card
-card_of w (Some a) = slice_index_or w.cards a no_card
+abbrev pub card_in : Option Adapter → Board
+card_in None = no_card
+card_in (Some adapter) = adapter.card
 
-abbrev pub with_card : World → Option ℕ → Board → World
-with_card w None card = w
-with_card w (Some a) card = record w { cards = slice_set w.cards a card }
+abbrev pub card_of : World → Option AdapterNo → Board
+card_of w a = card_in (adapter_of w a)
+
+abbrev pub with_card : World → Option AdapterNo → Board → World
+with_card w a card = with_adapter w a (λ adapter. record adapter { card = card })
 
 -- ---- the accesses of a call, one after the other, each of so many bytes
 

@@ -1,14 +1,22 @@
 -- Imports 1, 2, 3 and 6: the wrapper, the miniport and an adapter's attributes. (Windows DDK, ndis.h: NdisInitializeWrapper, NdisTerminateWrapper,
 -- NdisMRegisterMiniport with NDIS_MINIPORT_CHARACTERISTICS, NdisMSetAttributesEx.)
-use Rattle.std.specs.Prelude.{ℕ, ◌+◌, ◌*◌, ◌/◌, ◌%◌, max, min, Bool, true, false, ◌&&◌, ◌||◌, ◌==◌, not, nat_le, nat_lt, if◌then◌else◌, List, [], ◌∷◌, take, drop, slice_index_or, slice_set, Option, None, Some, is_some}
-use Rattle.std.specs.List.{list_all}
-use Rattle.std.specs.Int.{w32, from_le_bytes}
-use Rattle.nd_mem.specs.Space.{bytes_from}
+use Rattle.std.specs.Prelude.{ℕ, ◌+◌, ◌*◌, ◌/◌, ◌%◌, max, min, Bool, true, false, ◌&&◌, ◌||◌, ◌==◌, not, nat_le, nat_lt, if◌then◌else◌, List, [], ◌∷◌, map, slice_index, slice_index_or, Option, Some, Result, Ok, Err, is_some}
+use Rattle.std.specs.List.{list_all, range_with_len}
+use Rattle.nd_base.specs.declared.numbers.Slot.TheVariants.{Leave}
+use Rattle.nd_mem.specs.Space.{Cells, bytes_from}
+use Rattle.packet_chain.specs.Chain.{word_at}
 use Rattle.guest_map.specs.Handles.{wrapper}
+use Rattle.guest_map.specs.Slots.{slot_address}
 use Rattle.log_fields.specs.declared.field_values.Handler.{Handler}
 use Rattle.log_fields.specs.declared.field_values.Handler.TheVariants as handler
 use Rattle.import_answers.specs.Statuses.{success, failure, bad_version, bad_characteristics}
-use Rattle.import_answers.specs.World.{World, Caller, Miniport, Attributes, cells, word, is_adapter_handle}
+use Rattle.nd_base.specs.declared.numbers.AdapterNo.{AdapterNo}
+use Rattle.guest_world.specs.declared.adapters.Attributes.{Attributes}
+use Rattle.guest_world.specs.declared.miniport.Miniport.{Miniport}
+use Rattle.guest_world.specs.declared.world.World.{World}
+use Rattle.guest_world.specs.declared.answer.Caller.{Caller}
+use Rattle.guest_world.specs.Worlds.{with_adapter, longest_time}
+use Rattle.import_answers.specs.World.{cells, word, is_adapter_handle}
 use Rattle.import_answers.specs.Outcomes.{Outcome, arguments_rule, asks, can_read, can_write, word_written, done, returns, writes}
 
 -- ---- NdisInitializeWrapper(wrapper handle, three words of the system's)
@@ -46,14 +54,58 @@ offset_of_handler _ = 0
 abbrev pub length_of_version : ℕ → ℕ
 length_of_version minor = if minor == 0 then 96 else 108
 
+-- how many words those of 5.1 have
+abbrev pub most_words : ℕ
+most_words = 27
+
+-- what stands at an address: the versions in the first two bytes, and words, of which those that the version lacks are 0
+abbrev pub major_at : Cells → ℕ → ℕ
+major_at cells a = slice_index (bytes_from cells a 2) 0
+
+abbrev pub minor_at : Cells → ℕ → ℕ
+minor_at cells a = slice_index (bytes_from cells a 2) 1
+
+abbrev pub word_read : Cells → ℕ → ℕ → ℕ → ℕ
+word_read cells a minor k = if nat_lt (4 * k) (length_of_version minor) then word_at cells (a + 4 * k) else 0
+
+abbrev pub miniport_at : Cells → ℕ → Miniport
+miniport_at cells a = record { minor = minor_at cells a; words = map (word_read cells a (minor_at cells a)) (range_with_len 0 most_words) }
+
 -- a handler's address; 0 where the version has no such handler
 abbrev pub handler_of : Miniport → Handler → ℕ
-handler_of m h =
-    let at = offset_of_handler h in
-    if nat_lt 0 at && nat_le (at + 4) (length_of_version m.minor) then from_le_bytes w32 (take 4 (drop at m.characteristics)) else 0
+handler_of m h = if offset_of_handler h == 0 then 0 else slice_index_or m.words (offset_of_handler h / 4) 0
 
 abbrev pub has_handler : Miniport → Handler → Bool
 has_handler m h = not (handler_of m h == 0)
+
+-- the address that handlers return to is none of a function
+abbrev pub is_function : ℕ → Bool
+is_function a = not (a == slot_address Leave)
+
+-- the handlers that stand in the characteristics
+abbrev pub handlers_read : List Handler
+handlers_read =
+    handler.CheckForHang
+    ∷ handler.DisableInterrupt
+    ∷ handler.EnableInterrupt
+    ∷ handler.Halt
+    ∷ handler.HandleInterrupt
+    ∷ handler.Initialize
+    ∷ handler.Isr
+    ∷ handler.Query
+    ∷ handler.Reset
+    ∷ handler.Send
+    ∷ handler.Set
+    ∷ handler.TransferData
+    ∷ handler.ReturnPacket
+    ∷ handler.SendPackets
+    ∷ handler.CancelSend
+    ∷ handler.PnpEvent
+    ∷ handler.Shutdown
+    ∷ []
+
+abbrev pub has_functions : Miniport → Bool
+has_functions m = list_all (λ h. is_function (handler_of m h)) handlers_read
 
 -- the handlers that a miniport can't be without
 abbrev pub has_needed : Miniport → Bool
@@ -65,31 +117,30 @@ abbrev pub is_driver_entry : Handler → Bool
 is_driver_entry handler.DriverEntry = true
 is_driver_entry _ = false
 
-abbrev pub judged_miniport : World → ℕ → ℕ → Miniport → Outcome
-judged_miniport w major length m =
-    if not ((major == 5) && nat_le m.minor 1) then returns w bad_version
-    else if nat_lt length (length_of_version m.minor) then returns w bad_characteristics
-    else if has_needed m then returns (record w { kept = record w.kept { miniport = Some m } }) success
-    else returns w bad_characteristics
+-- the miniport that characteristics of a length register, or the status of those that register none
+abbrev pub judged : Cells → ℕ → ℕ → Result Miniport ℕ
+judged cells a length =
+    let m = miniport_at cells a in
+    if not ((major_at cells a == 5) && nat_le m.minor 1) then Err bad_version
+    else if nat_lt length (length_of_version m.minor) then Err bad_characteristics
+    else if has_needed m && has_functions m then Ok m
+    else Err bad_characteristics
+
+abbrev pub registers : World → Result Miniport ℕ → Outcome
+registers w (Ok m) = returns (record w { miniport = Some m }) success
+registers w (Err status) = returns w status
 
 -- the versions are read whatever the length
 abbrev pub register_miniport : World → Caller → List ℕ → Outcome
 register_miniport w x words =
-    let length = word words 3 in
-    let read = bytes_from (cells w) (word words 2) (max 2 length) in
-    if not (is_driver_entry x.handler) || is_some w.kept.miniport then returns w failure
-    else asks (can_read w (word words 2) (max 2 length)) arguments_rule
-    (judged_miniport w (slice_index_or read 0 0) length (record { minor = slice_index_or read 1 0; characteristics = read }))
+    if not (is_driver_entry x.handler) || is_some w.miniport then returns w failure
+    else asks (can_read w (word words 2) (max 2 (word words 3))) arguments_rule (registers w (judged (cells w) (word words 2) (word words 3)))
 
 -- ---- NdisMSetAttributesEx(adapter handle, context, seconds between hang checks, flags, bus type)
 
 abbrev pub is_initialize : Handler → Bool
 is_initialize handler.Initialize = true
 is_initialize _ = false
-
--- 86,400 seconds
-abbrev pub longest_time : ℕ
-longest_time = 86400000000
 
 -- 2 seconds, where none are given
 abbrev pub hang_period : ℕ → ℕ
@@ -102,9 +153,8 @@ is_deserialized flags = nat_lt 0 ((flags / 0x20) % 2)
 abbrev pub attributes : List ℕ → Attributes
 attributes words = record { context = word words 2; hang_period = hang_period (word words 3); deserialized = is_deserialized (word words 4) }
 
-abbrev pub with_attributes : World → Option ℕ → Attributes → World
-with_attributes w None given = w
-with_attributes w (Some a) given = record w { kept = record w.kept { attributes = slice_set w.kept.attributes a (Some given) } }
+abbrev pub with_attributes : World → Option AdapterNo → Attributes → World
+with_attributes w a given = with_adapter w a (λ adapter. record adapter { attributes = Some given })
 
 abbrev pub set_attributes : World → Caller → List ℕ → Outcome
 set_attributes w x words =

@@ -1,10 +1,17 @@
 -- Imports 11 to 15: an adapter's ports and its interrupt. (Windows DDK, ndis.h: NdisMRegisterIoPortRange, NdisMDeregisterIoPortRange,
 -- NdisMRegisterInterrupt, NdisMDeregisterInterrupt, NdisMSynchronizeWithInterrupt.)
-use Rattle.std.specs.Prelude.{ℕ, ◌+◌, Bool, false, ◌&&◌, ◌||◌, ◌==◌, not, nat_le, if◌then◌else◌, List, [], ◌∷◌, slice_index_or, slice_set, Option, None, Some}
+use Rattle.std.specs.Prelude.{ℕ, ◌+◌, Bool, false, ◌&&◌, ◌||◌, ◌==◌, not, nat_le, if◌then◌else◌, List, [], ◌∷◌, Option, None, Some}
 use Rattle.import_answers.specs.Statuses.{success, failure}
-use Rattle.import_answers.specs.World.{World, Caller, Interrupt, word, is_adapter_handle}
+use Rattle.nd_base.specs.declared.numbers.AdapterNo.{AdapterNo}
+use Rattle.nd_mem.specs.Space.{address}
+use Rattle.guest_world.specs.declared.adapters.Adapter.{Adapter}
+use Rattle.guest_world.specs.declared.adapters.Interrupt.{Interrupt}
+use Rattle.guest_world.specs.declared.world.World.{World}
+use Rattle.guest_world.specs.declared.answer.Caller.{Caller}
+use Rattle.guest_world.specs.Worlds.{adapter_of, with_adapter}
+use Rattle.import_answers.specs.World.{word, hardware_of, is_adapter_handle}
 use Rattle.import_answers.specs.Outcomes.{Outcome, Replies, Synchronizes, arguments_rule, asks, can_write, word_written, plain, done, returns}
-use Rattle.import_answers.specs.Configuration.{hardware_of}
+use Rattle.import_answers.specs.Registration.{is_function}
 
 -- an NE2000 has 32 ports
 abbrev pub ports : ℕ
@@ -31,11 +38,10 @@ abbrev pub is_true : ℕ → Bool
 is_true word = not (word == 0)
 
 abbrev pub interrupt : List ℕ → Interrupt
-interrupt words = record { object = word words 1; enters_isr = is_true (word words 5) || is_true (word words 6) }
+interrupt words = record { object = address (word words 1); enters_isr = is_true (word words 5) || is_true (word words 6) }
 
-abbrev pub with_interrupt : World → Option ℕ → Option Interrupt → World
-with_interrupt w None given = w
-with_interrupt w (Some a) given = record w { kept = record w.kept { interrupts = slice_set w.kept.interrupts a given } }
+abbrev pub with_interrupt : World → Option AdapterNo → Option Interrupt → World
+with_interrupt w a given = with_adapter w a (λ adapter. record adapter { interrupt = given })
 
 abbrev pub register_interrupt : World → Caller → List ℕ → Outcome
 register_interrupt w x words =
@@ -45,11 +51,14 @@ register_interrupt w x words =
 -- the interrupt that is registered of the caller's adapter
 abbrev pub is_object : Option Interrupt → ℕ → Bool
 is_object None a = false
-is_object (Some given) a = given.object == a
+is_object (Some given) a = given.object.0 == a
 
-abbrev pub is_interrupt : World → Option ℕ → ℕ → Bool
-is_interrupt w None a = false
-is_interrupt w (Some adapter) a = is_object (slice_index_or w.kept.interrupts adapter None) a
+abbrev pub is_interrupt_in : Option Adapter → ℕ → Bool
+is_interrupt_in None a = false
+is_interrupt_in (Some adapter) a = is_object adapter.interrupt a
+
+abbrev pub is_interrupt : World → Option AdapterNo → ℕ → Bool
+is_interrupt w adapter a = is_interrupt_in (adapter_of w adapter) a
 
 -- ---- NdisMDeregisterInterrupt(interrupt)
 abbrev pub deregister_interrupt : World → Caller → List ℕ → Outcome
@@ -57,4 +66,4 @@ deregister_interrupt w x words = asks (is_interrupt w x.adapter (word words 1)) 
 
 -- ---- NdisMSynchronizeWithInterrupt(interrupt, function, context): AL of the function is the call's
 abbrev pub synchronize : World → Caller → List ℕ → Outcome
-synchronize w x words = asks (is_interrupt w x.adapter (word words 1)) arguments_rule Synchronizes
+synchronize w x words = asks (is_interrupt w x.adapter (word words 1) && is_function (word words 2)) arguments_rule Synchronizes

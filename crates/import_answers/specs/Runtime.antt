@@ -1,6 +1,7 @@
 -- Imports 61 and 64. (Windows DDK: KeStallExecutionProcessor, DbgPrint.)
 use Rattle.std.specs.Prelude.{ℕ, ◌+◌, List, []}
-use Rattle.import_answers.specs.World.{World, word}
+use Rattle.guest_world.specs.declared.world.World.{World}
+use Rattle.import_answers.specs.World.{word}
 use Rattle.import_answers.specs.Outcomes.{Outcome, Replies, done}
 
 -- ---- KeStallExecutionProcessor(microseconds): they are its cost

@@ -1,0 +1,7 @@
+use Rattle.std.proofs.Common.{◌≡◌, drop}
+use Rattle.owner_rows.specs.Tallies.{first_of}
+use Rattle.owner_rows.specs.Which.{which_requests}
+use Rattle.owner_rows.proofs.requests.Requests.first.Given as goal
+
+abbrev pub invariant-loop-i : goal.invariant-loop-i
+invariant-loop-i l = first_of (which_requests l.which) l.self l.self-inside.live ≡ first_of (which_requests l.which) l.self (drop l.i l.self-inside.live)

@@ -1,0 +1,5 @@
+use Rattle.owner_rows.proofs.KeptRows.{no_requests}
+use Rattle.owner_rows.proofs.requests.Requests.new.Goals as goal
+
+pub invariant_of-result : goal.invariant_of-result
+invariant_of-result c = rw (c.before.new.ensures.items, c.new-2.ensures) no_requests

@@ -1,0 +1,11 @@
+pub mod After
+pub mod Calls
+pub mod Enters
+pub mod Frames
+pub mod Guest
+pub mod Laws
+pub mod Must
+pub mod Owed
+pub mod Replies
+pub mod Run
+pub mod State

@@ -7,3 +7,4 @@ pub mod Making
 pub mod Texts
 pub mod Walking
 pub mod Whole
+pub mod Soundness

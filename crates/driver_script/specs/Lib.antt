@@ -4,3 +4,4 @@ pub mod Items
 pub mod Statements
 pub mod Scripts
 pub mod Reading
+pub mod Sound

@@ -9,12 +9,14 @@ mod adapter_lines;
 mod fields;
 mod front;
 mod keywords;
+mod laws;
 mod refusal;
 mod script_file;
 mod section_lines;
 mod statement;
 
 pub use adapter_lines::{AdapterLine, ParamLine};
+pub use laws::scripts_are_sound;
 pub use refusal::ScriptRefusal;
 pub use script_file::Script;
 pub use section_lines::Line;

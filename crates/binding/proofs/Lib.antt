@@ -1,0 +1,4 @@
+pub mod Bursts
+pub mod Following
+pub mod Acts
+pub mod Keeping

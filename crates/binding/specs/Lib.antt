@@ -1,0 +1,11 @@
+pub mod Frames
+pub mod Words
+pub mod Meaning
+pub mod Loop
+pub mod Steps
+pub mod StepLaws
+pub mod Bursts
+pub mod Turns
+pub mod Follows
+pub mod Sections
+pub mod Keeps

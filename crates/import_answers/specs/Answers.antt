@@ -1,5 +1,5 @@
 -- What each import answers: a row each, in the order of their numbers, and what a call may answer by its row.
-use Rattle.std.specs.Prelude.{ℕ, ◌-◌, true, false, ◌&&◌, nat_le, List, [], ◌∷◌, length, slice_index_or}
+use Rattle.std.specs.Prelude.{ℕ, ◌-◌, true, false, ◌&&◌, nat_le, List, [], ◌∷◌, length, slice_index_or, ◌++◌, take, replicate}
 use Rattle.irql_lock.specs.LockState.{level_of}
 use Rattle.packet_pool.specs.declared.states.Kind.TheVariants.{Packet, Buffer}
 use Rattle.import_table.specs.Table.{Row}
@@ -95,8 +95,12 @@ none_such w x words = Breaks arguments_rule
 abbrev pub level_rule : ℕ
 level_rule = 5
 
+-- a call has room for eight words: behind those that were read stand zeros
+abbrev pub eight : List ℕ → List ℕ
+eight words = take 8 (words ++ replicate 8 0)
+
 -- what comes of a call of the import in this row, with the words that could be read of it: one that lacks a word breaks the rule on arguments
 abbrev pub outcome : World → Caller → Row → List ℕ → Outcome
 outcome w x row words =
     asks (nat_le row.low (level_of w.levels x.context) && nat_le (level_of w.levels x.context) row.high) level_rule
-    (asks (nat_le row.words (length words)) arguments_rule (slice_index_or answering (row.import - 1) none_such w x words))
+    (asks (nat_le row.words (length words)) arguments_rule (slice_index_or answering (row.import - 1) none_such w x (eight words)))

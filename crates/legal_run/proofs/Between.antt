@@ -16,7 +16,7 @@ use Rattle.legal_run.specs.After.{after}
 use Rattle.legal_run.specs.Must.{Due, Owes, Exactly, ReplyOf, first_of, made_next, first_stop, next_must, taken_first, must, is_carried, Serves}
 use Rattle.legal_run.specs.Run.{RunFrom, now_from, now, Run, Meets, freely, breaks_in, clock_behind}
 use Rattle.legal_run.specs.Laws.{is_piecemeal}
-use Rattle.legal_run.proofs.Forced.{AreForced, IsForced, next_forced}
+use Rattle.legal_run.proofs.Forced.{AreForced, IsForced, made_piece, next_forced}
 use Rattle.legal_run.proofs.Clocks.{effect_moment}
 use Rattle.legal_run.proofs.Runs.{run_less}
 
@@ -26,11 +26,11 @@ true_both false b h = absurd (cc)
 
 -- ---- what is due
 
-abbrev DueForced : Due → Type 0
+abbrev pub DueForced : Due → Type 0
 DueForced (Exactly e) = is_piecemeal e ≡ true
 DueForced _ = ⊤
 
-abbrev AllForced : Option Due → Type 0
+abbrev pub AllForced : Option Due → Type 0
 AllForced None = ⊤
 AllForced (Some due) = DueForced due
 
@@ -48,29 +48,29 @@ stop_forced (a ∷ ats) stop h = h a
 
 list_forced : (es : List Entry) → AreForced es → AllForced (first_of es)
 list_forced [] h = tt
-list_forced (e ∷ es) h = h.0
+list_forced (e ∷ es) h = made_piece e h.0
 
 made_forced : (x : CtxNo) (es : List Entry) → AreForced es → AllForced (made_next x es)
 made_forced x [] h = tt
-made_forced x (e ∷ es) h = h.0
+made_forced x (e ∷ es) h = made_piece e h.0
 
 next_must_forced : (n : Next) → IsForced n → AllForced (next_must n)
 next_must_forced Free h = tt
-next_must_forced (Takes e) h = h
+next_must_forced (Takes e) h = made_piece e h
 next_must_forced (Verdicts es) h = list_forced es h
 next_must_forced (Spinning x lock) h = refl
 next_must_forced (Makes x es lent) h = made_forced x es h
 next_must_forced (Stops cause ats) h = stop_forced ats _ (λ a. refl)
 
 taken_forced : (n : Next) → IsForced n → AllForced (taken_first n)
-taken_forced (Takes e) h = h
+taken_forced (Takes e) h = made_piece e h
 taken_forced Free h = tt
 taken_forced (Verdicts es) h = tt
 taken_forced (Spinning x lock) h = tt
 taken_forced (Makes x es lent) h = tt
 taken_forced (Stops cause ats) h = tt
 
-must_forced : (s : State) → IsForced s.next → AllForced (must s)
+pub must_forced : (s : State) → IsForced s.next → AllForced (must s)
 unfolding must
 must_forced s h = or_forced _ _ (taken_forced s.next h) (or_forced _ _ (owes_forced (owner_must s.owner)) (next_must_forced s.next h))
 
@@ -128,7 +128,7 @@ nothing_between c log due e run is = between c (now c log) due e (forced_now c l
 
 -- ---- a jump goes forward
 
-free_turn : (c : Inputs) (s : State) (e : Entry) (d : Option Due) → is_piecemeal e ≡ false → AllForced d → MatchOption d (freely c s e ≡ true) (λ x. Serves c s x e) → freely c s e ≡ true
+pub free_turn : (c : Inputs) (s : State) (e : Entry) (d : Option Due) → is_piecemeal e ≡ false → AllForced d → MatchOption d (freely c s e ≡ true) (λ x. Serves c s x e) → freely c s e ≡ true
 free_turn c s e None not forced h = h
 free_turn c s e (Some due) not forced h = let yes : is_piecemeal e ≡ true = serves_piece c s due e forced h in absurd (cc)
 

@@ -1,4 +1,4 @@
--- What a run keeps as due next are entries of the kinds that may stand where something must.
+-- What a run keeps as due next, beside spins and stops, are entries of the kinds that calls and leaves make.
 use Rattle.std.proofs.Common.{rules, ◌≡◌, ℕ, suc, Bool, true, false, List, [], ◌∷◌, map, drop, length, refl, Option, Some, None}
 use Rattle.std.specs.Prelude.{⊤, count_by, slice_get}
 use Rattle.std.specs.Option.{option_and_then}
@@ -20,12 +20,37 @@ use Rattle.legal_run.specs.Calls.{Did, Broken, Waits, Made, completion, Walked, 
 use Rattle.legal_run.specs.After.{next_after, popped, call_next, leave_next, takes, spent, enter_next, reaches, cost_of}
 use Rattle.legal_run.specs.Laws.{is_piecemeal}
 
+-- the kinds that a call makes, or that are drawn from a leave; and a loan that goes home
+abbrev pub is_made : Entry → Bool
+is_made (entries.Complete _ _) = true
+is_made (entries.Late _) = true
+is_made (entries.Requeue _) = true
+is_made (entries.Indicate _ _ _ _ _) = true
+is_made (entries.Back _ _) = true
+is_made (entries.Answer _ _ _) = true
+is_made (entries.ResetEnd _ _) = true
+is_made (entries.Port _ _ _ _ _) = true
+is_made (entries.WireOut _ _) = true
+is_made _ = false
+
+pub made_piece : (e : Entry) → is_made e ≡ true → is_piecemeal e ≡ true
+made_piece (entries.Complete _ _) h = refl
+made_piece (entries.Late _) h = refl
+made_piece (entries.Requeue _) h = refl
+made_piece (entries.Indicate _ _ _ _ _) h = refl
+made_piece (entries.Back _ _) h = refl
+made_piece (entries.Answer _ _ _) h = refl
+made_piece (entries.ResetEnd _ _) h = refl
+made_piece (entries.Port _ _ _ _ _) h = refl
+made_piece (entries.WireOut _ _) h = refl
+made_piece _ h = absurd (cc)
+
 abbrev pub AreForced : List Entry → Type 0
 AreForced [] = ⊤
-AreForced (e ∷ es) = (is_piecemeal e ≡ true) × AreForced es
+AreForced (e ∷ es) = (is_made e ≡ true) × AreForced es
 
 abbrev pub IsForced : Next → Type 0
-IsForced (Takes e) = is_piecemeal e ≡ true
+IsForced (Takes e) = is_made e ≡ true
 IsForced (Verdicts es) = AreForced es
 IsForced (Makes x es lent) = AreForced es
 IsForced _ = ⊤
@@ -48,7 +73,7 @@ completion_forced : (s : State) (status : ℕ) (k : Option ℕ) → DidForced (c
 completion_forced s status None = tt
 completion_forced s status (Some k) = search rules
 
-onto_forced : (e : Entry) (descriptor : ℕ) (status : List Write) (w : Walked) → is_piecemeal e ≡ true → WalkForced w → WalkForced (onto e descriptor status w)
+onto_forced : (e : Entry) (descriptor : ℕ) (status : List Write) (w : Walked) → is_made e ≡ true → WalkForced w → WalkForced (onto e descriptor status w)
 onto_forced e descriptor status (Fell rule) is h = tt
 onto_forced e descriptor status (Went es lent writes) is h = (is, h)
 
@@ -61,11 +86,11 @@ walked_judged s a j away packet false frame home gone one other = tt
 walked_judged s a j away packet true None home gone one other = tt
 walked_judged s a j away packet true (Some bytes) home gone one other = walked_told s a j away packet bytes home gone one other
 
-walked : (s : State) (a j away : ℕ) (lent packets : List ℕ) → WalkForced (indicated s a j away lent packets)
+walked : (s : State) (a j away : ℕ) (before packets : List ℕ) → WalkForced (indicated s a j away before packets)
 unfolding indicated
-walked s a j away lent [] = tt
-walked s a j away lent (packet ∷ packets) =
-    walked_judged s a j away packet _ _ _ _ (walked s a (suc j) away lent packets) (walked s a (suc j) (suc away) (packet ∷ lent) packets)
+walked s a j away before [] = tt
+walked s a j away before (packet ∷ packets) =
+    walked_judged s a j away packet _ _ _ _ (walked s a (suc j) away (packet ∷ before) packets) (walked s a (suc j) (suc away) (packet ∷ before) packets)
 
 array_forced : (n : ℕ) (w : Walked) → WalkForced w → DidForced (array_made n w)
 array_forced n (Fell rule) h = tt
@@ -109,7 +134,7 @@ asked : (b : Bool) (rule : ℕ) (d : Drawn) → DrawnForced d → DrawnForced (a
 asked true rule d h = h
 asked false rule d h = tt
 
-first_forced : (e : Entry) (d : Drawn) → is_piecemeal e ≡ true → DrawnForced d → DrawnForced (draws_first e d)
+first_forced : (e : Entry) (d : Drawn) → is_made e ≡ true → DrawnForced d → DrawnForced (draws_first e d)
 first_forced e (Breaking rule) is h = tt
 first_forced e (Draws es) is h = (is, h)
 

@@ -1,7 +1,16 @@
+pub mod Behind
 pub mod Between
+pub mod Carried
+pub mod Causes
 pub mod Charges
 pub mod Clocks
+pub mod Duties
+pub mod Follows
 pub mod Forced
 pub mod Keeps
 pub mod Legal
+pub mod Named
+pub mod Picks
+pub mod Resets
 pub mod Runs
+pub mod Steps

@@ -105,9 +105,9 @@ abbrev pub onto : Entry → ℕ → List Write → Walked → Walked
 onto e descriptor status (Fell rule) = Fell rule
 onto e descriptor status (Went es lent writes) = Went (e ∷ es) (descriptor ∷ lent) (status ++ writes)
 
--- a packet of the pools that is out, and on no loan, not of this array either
-abbrev pub may_be_lent : State → List ℕ → ℕ → Bool
-may_be_lent s lent packet = is_out s.world.pools Packet packet && (not (is_lent s.world.pools packet) && not (list_any (λ d. d == packet) lent))
+-- a packet of the pools that is out, and on no loan, and that did not stand in this array before
+abbrev pub may_be_lent : State → (before : List ℕ) → ℕ → Bool
+may_be_lent s before packet = is_out s.world.pools Packet packet && (not (is_lent s.world.pools packet) && not (list_any (λ d. d == packet) before))
 
 -- the miniport has it back at once: it was copied, or nobody holds it and the miniport is serialized
 abbrev pub stays_home : State → ℕ → List ℕ → Bool → Bool
@@ -143,12 +143,12 @@ judged s a j away packet false frame home gone = Fell 2
 judged s a j away packet true None home gone = Fell 11
 judged s a j away packet true (Some bytes) home gone = told s a j away packet bytes home gone
 
--- `j` is the next loan's number, `away` how many are away, `lent` what this array has lent
-unfoldable pub indicated : State → ℕ → (j away : ℕ) → (lent : List ℕ) → List ℕ → Walked
-indicated s a j away lent [] = Went [] [] []
-indicated s a j away lent (packet ∷ packets) =
-    judged s a j away packet (may_be_lent s lent packet) (frame_at s.world.layout (cells s) packet) (indicated s a (suc j) away lent packets)
-    (indicated s a (suc j) (suc away) (packet ∷ lent) packets)
+-- `j` is the next loan's number, `away` how many are away, `before` what stood in this array before
+unfoldable pub indicated : State → ℕ → (j away : ℕ) → (before : List ℕ) → List ℕ → Walked
+indicated s a j away before [] = Went [] [] []
+indicated s a j away before (packet ∷ packets) =
+    judged s a j away packet (may_be_lent s before packet) (frame_at s.world.layout (cells s) packet) (indicated s a (suc j) away (packet ∷ before) packets)
+    (indicated s a (suc j) (suc away) (packet ∷ before) packets)
 
 -- an array has 64 packets at most
 abbrev pub most_packets : ℕ

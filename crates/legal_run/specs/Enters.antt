@@ -186,10 +186,15 @@ with_word layout f value bytes = with_bytes bytes (offset_of layout f) (to_le_by
 abbrev pub with_byte : List ℕ → Field → ℕ → List ℕ → List ℕ
 with_byte layout f value bytes = with_bytes bytes (offset_of layout f) (value ∷ [])
 
+-- where the id stands by which a driver may cancel the packet: directly behind the out-of-band part; 0 is none (NDIS_SET_PACKET_CANCEL_ID)
+abbrev pub id_place : ℕ
+id_place = 112
+
 -- one buffer, which is the first and the last; the flag says that the fields of the packet's buffers are allocated (fPACKET_ALLOCATED_BY_NDIS)
-abbrev pub sent_packet : List ℕ → ℕ → ℕ → List ℕ
-sent_packet layout buffer n =
+abbrev pub sent_packet : List ℕ → (buffer n id : ℕ) → List ℕ
+sent_packet layout buffer n id =
     with_bytes
+    (with_bytes
     (with_byte layout field.PacketNdisFlags 0x80
     (with_byte layout field.PacketValidCounts 1
     (with_word layout field.PacketCount 1
@@ -197,21 +202,25 @@ sent_packet layout buffer n =
     (with_word layout field.PacketTotalLength n
     (with_word layout field.PacketTail buffer
     (with_word layout field.PacketHead buffer (packet_bytes layout))))))))
-    (out_of_band + offset_of layout field.OobStatus) (to_le_bytes w32 pending)
+    (out_of_band + offset_of layout field.OobStatus) (to_le_bytes w32 pending))
+    id_place (to_le_bytes w32 id)
 
 -- what has no bytes makes no write
 abbrev pub put_some : ℕ → List ℕ → List Write
 put_some a [] = []
 put_some a bytes = put a bytes ∷ []
 
-abbrev pub slot_writes : List ℕ → ℕ → List ℕ → List Write
-slot_writes layout slot bytes =
-    put slot (sent_packet layout (slot + 128) (length bytes)) ∷ put (slot + 128) (buffer_bytes layout (slot + 512) (length bytes)) ∷ put_some (slot + 512) bytes
+abbrev pub slot_writes : List ℕ → (slot id : ℕ) → List ℕ → List Write
+slot_writes layout slot id bytes =
+    put slot (sent_packet layout (slot + 128) (length bytes) id) ∷ put (slot + 128) (buffer_bytes layout (slot + 512) (length bytes)) ∷ put_some (slot + 512) bytes
+
+abbrev pub id_of : State → ℕ → ℕ
+id_of s k = option_map_or (λ p. p.id) (slice_get s.owner.packets k) 0
 
 unfoldable pub packet_writes : State → List ℕ → List ℕ → List Write
 packet_writes s [] ats = []
 packet_writes s (k ∷ ks) [] = []
-packet_writes s (k ∷ ks) (a ∷ ats) = option_map_or (λ f. slot_writes s.world.layout a f.bytes) (slice_get s.packets k) [] ++ packet_writes s ks ats
+packet_writes s (k ∷ ks) (a ∷ ats) = option_map_or (λ f. slot_writes s.world.layout a (id_of s k) f.bytes) (slice_get s.packets k) [] ++ packet_writes s ks ats
 
 -- ---- words: a row for each handler that has more than its context
 

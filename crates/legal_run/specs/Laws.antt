@@ -1,11 +1,24 @@
 -- Laws of runs. Each record is the contract of a function of src/laws.rt that does nothing.
-use Rattle.std.specs.Prelude.{◌≡◌, ◌↔◌, ℕ, ◌+◌, ◌≤◌, ◌<◌, Bool, true, false, List, [], ◌∷◌, ◌++◌, length, Some, None}
+use Rattle.std.specs.Prelude.{◌≡◌, ◌↔◌, ℕ, ◌+◌, ◌≤◌, ◌<◌, Bool, true, false, List, [], ◌∷◌, ◌++◌, length, Some, None, Ok, Option, ⊤, slice_index_or}
 use Rattle.call_log.specs.declared.entry.Entry.{Entry}
 use Rattle.call_log.specs.declared.entry.Entry.TheVariants as entries
 use Rattle.owner_machine.specs.Legal as owners
 use Rattle.owner_machine.specs.Legal.{Legal}
 use Rattle.owner_machine.specs.Machine.{rule_against}
-use Rattle.legal_run.specs.State.{Inputs, State, clock}
+use Rattle.nd_base.specs.declared.numbers.CtxNo.{CtxNo}
+use Rattle.irql_lock.specs.LockState.{IsOpen}
+use Rattle.import_table.specs.Table.{Row}
+use Rattle.guest_world.specs.declared.adapters.Adapter.{Adapter}
+use Rattle.guest_world.specs.declared.answer.Answer.{Answer}
+use Rattle.guest_world.specs.declared.answer.Caller.{Caller}
+use Rattle.import_answers.specs.Answers.{outcome}
+use Rattle.guest_world.specs.declared.answer.Answer.TheVariants.{Now}
+use Rattle.guest_world.specs.declared.answer.Reply.{Reply}
+use Rattle.guest_world.specs.declared.world.World.{World}
+use Rattle.import_answers.specs.Outcomes.{Comes}
+use Rattle.legal_run.specs.State.{Inputs, State, Wait, Nothing, OnLock, Calling, clock, call_at}
+use Rattle.legal_run.specs.Calls.{outcome_of}
+use Rattle.legal_run.specs.Replies.{answered}
 use Rattle.legal_run.specs.Must.{Due, must, Serves}
 use Rattle.legal_run.specs.After.{after, charges_of}
 use Rattle.legal_run.specs.Run.{Meets, Run, Reaches, now, now_from, costs, clock_behind}
@@ -61,3 +74,41 @@ ChargesAreSums = (c : Inputs) (s : State) (log : List Entry) (a : ℕ) → a < l
 -- halt, and behind a stop stands nothing of its adapter
 abbrev pub RunsAreLegal : Type 0
 RunsAreLegal = (c : Inputs) (log : List Entry) → Run c log → Legal (owners.start (length c.adapters) c.drivers) log (now c log).owner
+
+-- ---- replies
+
+-- a call is answered by its import's row, at once or once its lock is free
+abbrev pub is_by_row : Wait → Bool
+is_by_row Nothing = true
+is_by_row (OnLock lock) = true
+is_by_row _ = false
+
+-- What an import's row answers at once is a reply that the run takes, with the world that the row leaves: whichever address of the guest pool was picked,
+-- the reply names it, and no other one.
+abbrev pub RepliesAreTaken : Type 0
+RepliesAreTaken =
+    (s : State) (x : CtxNo) (call : Calling) (reply : Reply) (w : World) → call_at s x.0 ≡ Some call → is_by_row call.wait ≡ true
+    → Comes (outcome_of s x call.import call.words) s.world (Ok (Now reply)) w
+    → answered s x (record { eax = reply.eax; writes = reply.writes ++ call.writes }) ≡ Some (reply, w)
+
+-- ---- what a call keeps
+
+-- what the machine has for an adapter stays, and no frame waits in its card where none did
+abbrev pub KeepsPart : Option Adapter → Option Adapter → Type 0
+KeepsPart None None = ⊤
+KeepsPart (Some before) (Some after) = (after.hardware ≡ before.hardware) × (after.params ≡ before.params) × (before.card.sent ≡ None → after.card.sent ≡ None)
+KeepsPart _ _ = ⊥
+
+-- the world behind an import's answer, but for its writes and its charge: the clock's moment, memory and layout are as they were; a context that is open
+-- stays open; the adapters are the same
+pub record CallKeeps (before after : World) : Type 0 where
+  pub moment : after.clock.clock ≡ before.clock.clock
+  pub memory : after.memory ≡ before.memory
+  pub layout : after.layout ≡ before.layout
+  pub opened : (y : CtxNo) → IsOpen before.levels y → IsOpen after.levels y
+  pub parts : (a : ℕ) → KeepsPart (slice_index_or before.adapters a None) (slice_index_or after.adapters a None)
+
+-- whatever an import answers where no rule is broken
+abbrev pub CallsKeep : Type 0
+CallsKeep =
+    (w v : World) (x : Caller) (row : Row) (words : List ℕ) (answer : Answer) → Comes (outcome w x row words) w (Ok answer) v → CallKeeps w v

@@ -1,6 +1,7 @@
 pub mod After
 pub mod Calls
 pub mod Enters
+pub mod EntryLaws
 pub mod Frames
 pub mod Guest
 pub mod Laws

@@ -285,7 +285,7 @@ is_kept_busy s a =
     || (not (count_by (held_of a) s.owner.packets == 0)
     || (not (count_by (due_of a) s.owner.loans == 0)
     || (not (count_by (open_of a) s.owner.requests == 0)
-    || ((alive s a && at (λ row. row.owes_reset) s.owner.adapters a) || (phase_is is_resetting s.owner a || not (none_runs s.owner any_handler a)))))))
+    || ((running s a && at (λ row. row.owes_reset) s.owner.adapters a) || (phase_is is_resetting s.owner a || not (none_runs s.owner any_handler a)))))))
 
 -- the lowest one
 abbrev pub silent_one : Inputs → State → Option ℕ

@@ -21,7 +21,6 @@ use Rattle.import_table.specs.declared.calls.CutCall.{CutCall}
 use Rattle.import_table.specs.Table.{row_of}
 use Rattle.import_table.specs.Arguments.{arguments}
 use Rattle.owner_machine.specs.Machine.{rule_against}
-use Rattle.owner_machine.specs.Must.{may_break_in}
 use Rattle.owner_machine.specs.Handlers.{is_none as is_empty}
 use Rattle.legal_run.specs.State.{Inputs, State, Next, Stops, start, cells, clock, call_at, context_at, adapter_of, is_open, is_free, drivers_of, hearing_of, all_contexts}
 use Rattle.legal_run.specs.Owed.{first, frame_due, is_owed, may_jump, may_be_silent, may_be_quiet, all_finished, is_moment}
@@ -133,10 +132,10 @@ freely c s (entries.Time moment) = may_jump c s moment
 freely c s (entries.Stop a (cause.Breach rule)) = (rule.0 == 13) && may_be_silent c s a.0
 freely c s _ = false
 
--- a stop for want of memory may break in, but neither into a tail nor before the refusal of a send or a question; the adapters that are not finished are
--- stopped in rising order
+-- a stop for want of memory may break in, but where the owner machine refuses it: into a tail, and before the refusal of a send or a question. The
+-- adapters that are not finished are stopped in rising order.
 abbrev pub breaks_in : Inputs → State → Entry → Bool
-breaks_in c s (entries.Stop a cause.Memory) = may_break_in s.owner.next (entries.Stop a cause.Memory) && is_moment a.0 (first (unfinished c s))
+breaks_in c s (entries.Stop a cause.Memory) = is_moment a.0 (first (unfinished c s))
 breaks_in c s _ = false
 
 -- ---- what an entry needs

@@ -1,6 +1,6 @@
 //! Laws of runs: each is the contract of a function that does nothing.
 
-ghost use Rattle.legal_run.specs.Laws.{RunLaws, ClockLaws, NothingStandsBetween, ChargesAreSums, RunsAreLegal};
+ghost use Rattle.legal_run.specs.Laws.{RunLaws, ClockLaws, NothingStandsBetween, ChargesAreSums, RunsAreLegal, RepliesAreTaken, CallsKeep};
 
 /// Every front of a run is a run; a run goes on by one entry that meets what it needs in the one state
 /// that the run leaves.
@@ -27,4 +27,15 @@ pub fn charges_are_sums()
 /// Every run is a legal log of the owner machine, whose laws therefore hold of it.
 pub fn runs_are_legal()
     ensures { RunsAreLegal }
+{}
+
+/// What an import's row answers at once is a reply that the run takes.
+pub fn replies_are_taken()
+    ensures { RepliesAreTaken }
+{}
+
+/// Behind an import's answer the clock's moment, memory and layout are as they were, a context that is
+/// open stays open, and the adapters are the same, with no frame waiting where none did.
+pub fn calls_keep()
+    ensures { CallsKeep }
 {}

@@ -6,6 +6,11 @@
 //! (After.antt), what must stand next (Must.antt), and what each entry needs (Run.antt).
 #![tactic(auto)]
 
+mod kinds;
 mod laws;
 
-pub use laws::{charges_are_sums, clock_laws, nothing_stands_between, run_laws, runs_are_legal};
+pub use kinds::{cause_laws, code_laws, duties_are_served, entry_laws};
+pub use laws::{
+    calls_keep, charges_are_sums, clock_laws, nothing_stands_between, replies_are_taken, run_laws,
+    runs_are_legal,
+};

@@ -1,0 +1,18 @@
+//! The assembler: bytes from source text.
+//!
+//! The text stands at 0x80101000, and behind it one zero word for each import name, in the order of
+//! first use. What it is that bytes are those of a source is a relation (specs/Assembly.antt): each
+//! line has its bytes, labels are the addresses at which they stand, and an instruction's bytes spell
+//! it, and so decode to it.
+#![tactic(auto)]
+
+mod assembly;
+mod octets;
+mod piece;
+mod plan;
+mod refusal;
+mod table;
+mod values;
+
+pub use assembly::assemble;
+pub use refusal::ForgeRefusal;

@@ -1,0 +1,2 @@
+pub mod PoolOutcomes
+pub mod Totals

@@ -1,6 +1,7 @@
 -- Jumps, silence, turns, enters and replies stand where they may.
 use Rattle.std.proofs.Common.{◌≡◌, ◌≢◌, ℕ, zero, suc, ◌<◌, ◌&&◌, ◌||◌, ◌==◌, Bool, true, false, not, List, [], ◌∷◌, ◌++◌, length, refl, sym, ap, subst, Option, Some, None, inl, inr, ◌⊎◌, arith}
 use Rattle.std.specs.Prelude.{nat_lt, nat_le}
+use Rattle.std.specs.Option.{MatchOption}
 use Rattle.std.specs.List.{list_any}
 use Rattle.std.proofs.lemmas.Bool.{ltb-true, leb-true, eqb-true, cases_Bool}
 use Rattle.std.proofs.lemmas.Bool.Decides.{eqb_tells}
@@ -15,10 +16,11 @@ use Rattle.owner_machine.specs.Contexts.{in_brackets}
 use Rattle.legal_run.specs.State.{Inputs, State, clock, all_contexts, adapters_of, is_free, alive}
 use Rattle.legal_run.specs.Owed.{frame_due, can_run, is_owed, owes_entry, owes_some, some_owed, handlers, rests, waits, waits_or_is_done, all_wait, next_moment, is_moment, may_jump, may_be_quiet}
 use Rattle.legal_run.specs.After.{reaches}
-use Rattle.legal_run.specs.Run.{Run, now, goes_on, all_below, is_turn, is_going}
-use Rattle.legal_run.specs.EntryLaws.{IsAtRest, Jumps, IsQuiet, IsTurn}
+use Rattle.legal_run.specs.Run.{Run, now, goes_on, all_below, is_turn, is_going, freely, breaks_in}
+use Rattle.legal_run.specs.EntryLaws.{IsAtRest, Jumps, IsQuiet, IsTurn, IsAsked, is_forced}
 use Rattle.legal_run.proofs.Between.{true_both}
-use Rattle.legal_run.proofs.Named.{none_numbered, all_numbered, no_context_is, stands_freely}
+use Rattle.legal_run.specs.Must.{Due, must, Serves}
+use Rattle.legal_run.proofs.Named.{met, none_numbered, all_numbered, no_context_is, stands_freely}
 
 -- ---- tests
 
@@ -162,3 +164,30 @@ turns c log x n run =
       ends = ends_at n (reaches c s x n) (goes_on s x n) all.1;
       frames = not_true (frame_due c s) frames.0;
     }
+
+-- ---- what stands only where it must
+
+never_free : (c : Inputs) (s : State) (e : Entry) → is_forced e ≡ true → (freely c s e ≡ false) × (breaks_in c s e ≡ false)
+never_free c s (entries.Hand packet) is = (refl, refl)
+never_free c s (entries.Requeue packet) is = (refl, refl)
+never_free c s (entries.Complete packet status) is = (refl, refl)
+never_free c s (entries.Late packet) is = (refl, refl)
+never_free c s (entries.Indicate a loan bytes holders copied) is = (refl, refl)
+never_free c s (entries.Back loan failed) is = (refl, refl)
+never_free c s (entries.HandAsk request) is = (refl, refl)
+never_free c s (entries.Answer request status bytes) is = (refl, refl)
+never_free c s (entries.ResetEnd a status) is = (refl, refl)
+never_free c s (entries.Port a way width port bytes) is = (refl, refl)
+never_free c s (entries.WireOut a bytes) is = (refl, refl)
+never_free c s (entries.Spin x lock) is = (refl, refl)
+never_free c s _ is = absurd (cc)
+
+asked_in : (c : Inputs) (s : State) (e : Entry) (d : Option Due) → must s ≡ d → freely c s e ≡ false → MatchOption d (freely c s e ≡ true) (λ due. Serves c s due e) → IsAsked c s e
+asked_in c s e None is not h = absurd (cc)
+asked_in c s e (Some due) is not h = record { due = due; must = is; serves = h }
+
+pub asked : (c : Inputs) (log : List Entry) (e : Entry) → is_forced e ≡ true → Run c (log ++ e ∷ []) → IsAsked c (now c log) e
+asked c log e is run =
+    let s : State = now c log in
+    let never = never_free c s e is in
+    elim (met c log e run).turn [ inl h ↦ asked_in c s e (must s) refl never.0 h | inr h ↦ absurd (cc) ]

@@ -22,7 +22,7 @@ use Rattle.legal_run.specs.Enters.{words_of, writes_of, may_lie, handed_to, name
 use Rattle.import_table.specs.Table.{row_of}
 use Rattle.legal_run.specs.Replies.{Answered, answered, returned}
 use Rattle.legal_run.specs.After.{after, turned, machine_of, reaches, breach, unfinished, cost_of, next_after, adapters_stopped, import_of}
-use Rattle.legal_run.specs.Must.{Due, Owes, Exactly, ReplyOf, first_stop, must}
+use Rattle.legal_run.specs.Must.{Due, Owes, Exactly, ReplyOf, Serves, first_stop, must}
 use Rattle.legal_run.specs.Run.{Run, Meets, now, goes_on}
 
 -- ---- rest
@@ -122,6 +122,28 @@ pub record CauseLaws : Type 0 where
   pub reply : (c : Inputs) (s : State) (x : CtxNo) (eax : ℕ) (writes : List Write)
       → reaches c s x (cost_of s x (record { eax = eax; writes = writes })) ≡ true → must (after c s (entries.Reply x eax writes)) ≡ stops_of c s x cause.Budget
 
+-- ---- kinds that stand only where they must
+
+abbrev pub is_forced : Entry → Bool
+is_forced (entries.Hand _) = true
+is_forced (entries.Requeue _) = true
+is_forced (entries.Complete _ _) = true
+is_forced (entries.Late _) = true
+is_forced (entries.Indicate _ _ _ _ _) = true
+is_forced (entries.Back _ _) = true
+is_forced (entries.HandAsk _) = true
+is_forced (entries.Answer _ _ _) = true
+is_forced (entries.ResetEnd _ _) = true
+is_forced (entries.Port _ _ _ _ _) = true
+is_forced (entries.WireOut _ _) = true
+is_forced (entries.Spin _ _) = true
+is_forced _ = false
+
+pub record IsAsked (c : Inputs) (s : State) (e : Entry) : Type 0 where
+  pub due : Due
+  pub must : must s ≡ Some due
+  pub serves : Serves c s due e
+
 -- ---- the laws
 
 pub record EntryLaws : Type 0 where
@@ -131,6 +153,8 @@ pub record EntryLaws : Type 0 where
   pub reply : (c : Inputs) (log : List Entry) (x : CtxNo) (eax : ℕ) (writes : List Write) → Run c (log ++ entries.Reply x eax writes ∷ []) → IsReply (now c log) x eax writes
   pub enter : (c : Inputs) (log : List Entry) (a : AdapterNo) (x : CtxNo) (h : Handler) (words : List ℕ) (writes : List Write)
       → Run c (log ++ entries.Enter (Some a) x h words writes ∷ []) → IsEnter c (now c log) a.0 x.0 h words writes
+  -- what is handed, what ends, what a call makes and what the wire gets stands only where it must
+  pub asked : (c : Inputs) (log : List Entry) (e : Entry) → is_forced e ≡ true → Run c (log ++ e ∷ []) → IsAsked c (now c log) e
   -- a call that breaks no rule and does not wait: what it makes stands directly behind it, and then its reply
   pub made : (c : Inputs) (s : State) (x : CtxNo) (import : ℕ) (words : List ℕ) (e : Entry) (es : List Entry) (lent : List ℕ) (writes : List Write)
       → did s x import words ≡ Made (e ∷ es) lent writes → must (after c s (entries.Call x import words)) ≡ Some (Exactly e)

@@ -97,6 +97,8 @@ def nasm_line(line):
     line = re.sub(r"^(jmp|call|j\w+|loop\w*) (0x[0-9a-f]+|\d+)$", lambda m: f"{m.group(1)} {'' if m.group(1)[:4] in ('loop', 'jecx') or m.group(1) == 'call' else 'near '}{m.group(2)}", line)
     line = re.sub(r"^(repne) (movs|stos|lods)(.)$", r"db 0xf2\n\2\3", line)
     line = re.sub(r"^lea (\w+), \w+ ", r"lea \1, ", line)
+    # else it takes [eax+eax*1] for [eax*2]
+    line = line.replace("[eax*2]", "[nosplit eax*2]")
     line = re.sub(r"^ret (\d+)", r"ret word \1", line)
     return line.replace("rep nop", "pause")
 
@@ -116,6 +118,10 @@ def shown(pieces, folder):
         jump = re.match(r"^(j\w+|call|loop\w*)\s+0x([0-9a-f]+)$", said)
         if jump:
             said = f"{jump.group(1)} to {(int(jump.group(2), 16) - place) % 2 ** 32:x}"
+        # XCHG of two registers is the same in either order
+        swap = re.match(r"^xchg\s+(\w+),(\w+)$", said)
+        if swap:
+            said = "xchg " + ",".join(sorted(swap.groups()))
         # immediates as numbers, and one spelling of a shift by 1
         out.append(re.sub(r"\s+", " ", said).replace(",0x1", ",1"))
     return out

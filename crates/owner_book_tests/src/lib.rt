@@ -1,0 +1,13 @@
+//! Tests of owner_book.
+#![tactic(auto)]
+
+#[cfg(test)]
+mod books;
+#[cfg(test)]
+mod loans;
+#[cfg(test)]
+mod packets;
+#[cfg(test)]
+mod requests;
+#[cfg(test)]
+mod stops;

@@ -1,3 +1,0 @@
-pub mod Guest
-pub mod Run
-pub mod Session

@@ -2,8 +2,8 @@
 use Rattle.std.proofs.Common.{◌≡◌, ◌≢◌, ℕ, ◌<◌, ◌⊎◌, inl, inr, List, Some, Ok, refl, sym, subst, ◌∙◌, arith}
 use Rattle.nd_base.specs.Files.{Kept, bytes_at, Rose}
 use Rattle.pe_image.specs.Image.{ImageParts}
-use Rattle.driver_entry.specs.declared.session.Ending.{Ending}
-use Rattle.driver_entry.specs.declared.session.Ending.TheVariants.{Left, Faulting, Spent}
+use Rattle.entry_session.specs.declared.session.Ending.{Ending}
+use Rattle.entry_session.specs.declared.session.Ending.TheVariants.{Left, Faulting, Spent}
 use Rattle.ndis_run.specs.Devices.{Devices, Output}
 use Rattle.ndis_run.specs.Prints.{Prints, whole, failed, no_memory}
 use Rattle.ndis_run.specs.RunZero.{EndsZero, status_of}

@@ -2,7 +2,7 @@
 use Rattle.std.proofs.Common.{◌≡◌, ℕ, List, Option, Some, Ok, Err, inl, inr, length, ◌≤◌, take, subst, sym, ◌∙◌, refl}
 use Rattle.nd_base.specs.Files.{Kept, bytes_at, Rose}
 use Rattle.pe_image.specs.Image.{ImageParts}
-use Rattle.driver_entry.specs.declared.session.Ending.{Ending}
+use Rattle.entry_session.specs.declared.session.Ending.{Ending}
 use Rattle.ndis_run.specs.declared.run_zero.Failure.{Failure}
 use Rattle.ndis_run.specs.declared.run_zero.Failure.TheVariants as failure
 use Rattle.ndis_run.specs.Devices.{Storage}

@@ -2,8 +2,8 @@
 use Rattle.std.specs.Prelude.{ℕ, List, [], ◌∷◌, ◌++◌, codes}
 use Rattle.std.specs.Fmt.{decimal}
 use Rattle.nd_base.specs.Text.{line, hex_word}
-use Rattle.driver_entry.specs.declared.session.Ending.{Ending}
-use Rattle.driver_entry.specs.declared.session.Ending.TheVariants.{Left, Faulting, Spent}
+use Rattle.entry_session.specs.declared.session.Ending.{Ending}
+use Rattle.entry_session.specs.declared.session.Ending.TheVariants.{Left, Faulting, Spent}
 
 -- how DriverEntry ended: its status, or what stopped it
 abbrev pub ending_text : Ending → List ℕ
@@ -11,7 +11,7 @@ ending_text (Left status) = hex_word status.0
 ending_text Faulting = codes "fault"
 ending_text Spent = codes "budget"
 
--- the line of a run, with the sum of its turns
+-- the line of a run, with what it was charged: its turns and replies
 abbrev pub driver_entry_line : Ending → ℕ → List ℕ
 driver_entry_line ending charged = line (codes "driverentry" ∷ ending_text ending ∷ codes "charged" ∷ decimal charged ∷ [])
 

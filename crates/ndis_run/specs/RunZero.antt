@@ -2,15 +2,18 @@
 use Rattle.std.specs.Prelude.{◌≡◌, ◌≢◌, ℕ, ◌≤◌, ◌⊎◌, List, Option, Some, Ok, Err, Result, length, take}
 use Rattle.std.specs.FinMap.{insert}
 use Rattle.nd_base.specs.Files.{Kept, bytes_at, Rose}
+use Rattle.nd_base.specs.Layout.{usual as usual_layout}
 use Rattle.pe_image.specs.Image.{ImageParts}
+use Rattle.import_slots.specs.Slots.{addresses_of}
 use Rattle.pe_image.specs.declared.refusal.PeRefusal.{PeRefusal}
 use Rattle.pe_image.specs.declared.refusal.PeRefusal.TheVariants.{OutOfMemory}
 use Rattle.printed_lines.specs.ImageLines.{image_line, unknown_import_line}
 use Rattle.call_log.specs.declared.entry.Entry.{Entry}
-use Rattle.driver_entry.specs.declared.session.Ending.{Ending}
-use Rattle.driver_entry.specs.declared.session.Ending.TheVariants.{Left, Faulting, Spent}
+use Rattle.entry_session.specs.declared.session.Ending.{Ending}
+use Rattle.entry_session.specs.declared.session.Ending.TheVariants.{Left, Faulting, Spent}
 use Rattle.call_log.specs.Lines.{log_text}
-use Rattle.driver_entry.specs.Run.{Inputs, IsWhole, charged}
+use Rattle.entry_session.specs.Session.{Setting, inputs, IsWhole}
+use Rattle.legal_run.specs.Run.{now}
 use Rattle.ndis_run.specs.declared.run_zero.Finished.{Finished}
 use Rattle.ndis_run.specs.declared.run_zero.Failure.{Failure}
 use Rattle.ndis_run.specs.declared.run_zero.Failure.TheVariants as failure
@@ -19,15 +22,15 @@ use Rattle.ndis_run.specs.Printed.{driver_entry_line, read_line}
 use Rattle.ndis_run.specs.Prints.{Tells, TellsMemory, TellsUnwritten}
 use Rattle.ndis_run.specs.Shown.{judged}
 
--- DriverEntry of an image alone, with the usual budget
-abbrev pub usual : ImageParts → Inputs
-usual image = record { image = image; budget = 4000000 }
+-- DriverEntry of an image alone, with a slot for each import, the usual budget and the usual layout
+abbrev pub usual : ImageParts → Setting
+usual image = record { image = image; slots = addresses_of image.imports; budget = 4000000; layout = usual_layout }
 
--- a whole run of an image, its text, and the sum of its turns
+-- a whole run of an image, its text, and what it was charged
 pub record HasRun (image : ImageParts) (ending : Ending) (sum : ℕ) (text : List ℕ) : Type 0 where
   pub entries : List Entry
-  pub whole : IsWhole (usual image) entries ending
-  pub is_sum : sum ≡ charged entries
+  pub whole : IsWhole (inputs (usual image)) entries ending
+  pub is_sum : sum ≡ (now (inputs (usual image)) entries).charged
   pub is_text : text ≡ log_text entries
 
 -- the status of a run's end
@@ -42,7 +45,7 @@ pub record IsRunOf (bytes : List ℕ) (ending : Ending) (sum : ℕ) (text : List
   pub read : judged bytes ≡ Ok image
   pub run : HasRun image ending sum text
 
--- LOG holds the text of a whole run of the image that SYS held, with this end and this sum of its turns; no other file changed
+-- LOG holds the text of a whole run of the image that SYS held, with this end and this charge; no other file changed
 pub record Logs (m : Kept) (sys log : List ℕ) (kept : Option Kept) (ending : Ending) (sum : ℕ) : Type 0 where
   pub text : List ℕ
   pub run : IsRunOf (bytes_at m sys) ending sum text

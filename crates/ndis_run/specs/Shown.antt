@@ -1,9 +1,10 @@
 -- What the commands that show an input answer and print for its bytes.
-use Rattle.std.specs.Prelude.{ℕ, List, [], ◌∷◌, Result, Ok, Err}
+use Rattle.std.specs.Prelude.{ℕ, List, Option, None, Some, Result, Ok, Err}
 use Rattle.std.specs.List.{flat_map}
 use Rattle.std.specs.Str.{chars}
 use Rattle.std.specs.Char.Escape.{encode_utf16}
-use Rattle.pe_image.specs.Image.{ImageParts, ImportParts}
+use Rattle.pe_image.specs.Image.{ImageParts}
+use Rattle.import_slots.specs.Slots.{first_unknown}
 use Rattle.pe_image.specs.Reading.{reading}
 use Rattle.pe_image.specs.declared.refusal.PeRefusal.{PeRefusal}
 use Rattle.inf_text.specs.Sections.{Section}
@@ -47,13 +48,13 @@ shown_sections units (Err refusal) = answer 6 (inf_line refusal)
 abbrev pub shown_inf : List ℕ → List ℕ → Answer
 shown_inf id bytes = shown_sections (utf16 id) (inf.sections_of bytes)
 
--- no import is served yet
-abbrev pub served : ImageParts → List ImportParts → Result ImageParts (List ℕ)
-served image [] = Ok image
-served image (import ∷ imports) = Err (unknown_import_line import.name)
+-- an image of which an import is in no table is refused with the first such name
+abbrev pub served : ImageParts → Option (List ℕ) → Result ImageParts (List ℕ)
+served image None = Ok image
+served image (Some name) = Err (unknown_import_line name)
 
 abbrev pub served_image : Result ImageParts PeRefusal → Result ImageParts (List ℕ)
-served_image (Ok image) = served image image.imports
+served_image (Ok image) = served image (first_unknown image.imports)
 served_image (Err refusal) = Err (image_line refusal)
 
 -- the image that `run0` runs for a file with these bytes, or the line of its refusal

@@ -8,7 +8,7 @@ ghost use Rattle.ndis_run.specs.RunZero.{status_of};
 ghost use Rattle.ndis_run.specs.Printed.{driver_entry_line, ending_text, memory_line, read_line, write_line};
 
 use crate::transfer::print;
-use driver_entry::Ending;
+use entry_session::Ending;
 use nd_base::laws::{hex_digits_are_padded, risen_counts_stay_risen};
 use nd_base::{IoFault, Sink};
 use std::alloc::{AllocError, Global};
@@ -27,7 +27,7 @@ fn ending_text(alloc: Global, ending: Ending) -> Result<String, AllocError>
     }
 }
 
-fn driver_entry_line(alloc: Global, ending: Ending, charged: u32) -> Result<String, AllocError>
+fn driver_entry_line(alloc: Global, ending: Ending, charged: u64) -> Result<String, AllocError>
     ensures { IfOk result (λ text. string_bytes text ≡ driver_entry_line ending charged) }
 {
     let ended = ending_text(alloc, ending)?;
@@ -98,7 +98,7 @@ fn status_of(ending: Ending) -> u8
 }
 
 /// Prints how DriverEntry ended.
-pub fn tell_end<O: Sink>(alloc: Global, out: &mut O, ending: Ending, charged: u32) -> u8
+pub fn tell_end<O: Sink>(alloc: Global, out: &mut O, ending: Ending, charged: u64) -> u8
     ensures { Tells (driver_entry_line ending charged) (status_of ending) result (output O.Sink out.old) (output O.Sink out.new) }
 {
     match driver_entry_line(alloc, ending, charged) {

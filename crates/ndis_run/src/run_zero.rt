@@ -1,13 +1,14 @@
 //! `run0 SYS LOG`: DriverEntry of an image alone.
 
-ghost use Rattle.std.specs.Prelude.{◌≡◌, [], ◌≢◌, ℕ, ◌<◌, ◌⊎◌, Some, None, Ok, Err, IfOk, IfErr, OnOk, OnErr, IsTrue, List};
+ghost use Rattle.std.specs.Prelude.{◌≡◌, ◌≢◌, ℕ, ◌<◌, ◌⊎◌, Some, None, Ok, Err, IfOk, IfErr, OnOk, OnErr, IsTrue, List};
 ghost use Rattle.std.specs.FinMap.{insert};
 ghost use Rattle.nd_base.specs.Files.{Kept, bytes_at, Rose, OnlyReads, OnlyWrites};
 ghost use Rattle.pe_image.specs.Image.{ImageParts};
 ghost use Rattle.printed_lines.specs.ImageLines.{image_line};
 ghost use Rattle.ndis_run.specs.Printed.{driver_entry_line, ending_text};
 ghost use Rattle.call_log.specs.Lines.{log_text};
-ghost use Rattle.driver_entry.specs.Run.{Inputs};
+ghost use Rattle.import_slots.specs.Slots.{first_unknown, addresses_of};
+ghost use Rattle.entry_session.specs.Session.{Setting};
 ghost use Rattle.ndis_run.specs.Transfer.{WritesFront};
 ghost use Rattle.ndis_run.specs.Shown.{served, judged};
 ghost use Rattle.ndis_run.specs.Devices.{storage};
@@ -16,16 +17,17 @@ ghost use Rattle.ndis_run.specs.RunZero.{HasRun, IsRefusalLine, RunsAndLogs, usu
 use crate::log_file::write_log;
 use crate::transfer::{ReadFailure, read_file};
 use call_log::Log;
-use driver_entry::{Ending, Session};
-use nd_base::{Bytes, Files, IoFault, OutOfMemory};
-use pe_image::{Image, PeRefusal};
+use entry_session::{Ending, Session};
+use import_slots::{SlotRefusal, slot_laws, slots};
+use nd_base::{Bytes, Files, IoFault, Layout, OutOfMemory};
+use pe_image::{Image, ImportAddresses, PeRefusal};
 use printed_lines::{image_line, unknown_import_line};
 use std::alloc::{AllocError, Global};
 
 /// The most bytes that an image's file may have.
 pub const IMAGE_LIMIT: usize = 0x40_0000;
 
-/// How many instructions DriverEntry may take.
+/// What DriverEntry may be charged: an instruction costs one, a call its microseconds.
 const BUDGET: u32 = 4_000_000;
 
 /// Why `run0` does not come to an end.
@@ -62,27 +64,40 @@ fn refused(alloc: Global, refusal: PeRefusal) -> Failure
     }
 }
 
-/// An image whose imports are all served, of which there are none yet.
-fn served(alloc: Global, image: Image) -> Result<Image, Failure>
-    ensures ok { IfOk result (λ i. (served image image.imports ≡ Ok i) × (i.imports ≡ [])) }
-    ensures refused { IfErr result (λ e. (line : List ℕ) → e ≡ Failure.Refused line → IsRefusalLine line × (served image image.imports ≡ Err line)) }
+/// An image that can be run, and the slot of each of its imports.
+#[derive(Drop)]
+pub struct Loaded {
+    pub image: Image,
+    pub slots: ImportAddresses,
+}
+
+/// The slots of an image's imports, or its refusal where one is in no table.
+fn served(alloc: Global, image: &Image) -> Result<ImportAddresses, Failure>
+    ensures ok { IfOk result (λ slots. (served image.now (first_unknown image.now.imports) ≡ Ok image.now) × (slots ≡ addresses_of image.now.imports)) }
+    ensures refused { IfErr result (λ e. (line : List ℕ) → e ≡ Failure.Refused line → IsRefusalLine line × (served image.now (first_unknown image.now.imports) ≡ Err line)) }
     ensures others { IfErr result (λ e. (e ≡ Failure.Unread → ⊥) × (e ≡ Failure.Unwritten → ⊥)) }
 {
-    match image.imports().first() {
-        None => Ok(image),
-        Some(import) => Err(Failure::Refused(unknown_import_line(alloc, import.name.as_slice())?)),
+    match slots(alloc, image) {
+        Ok(slots) => Ok(slots),
+        Err(SlotRefusal::OutOfMemory) => Err(Failure::Memory),
+        Err(SlotRefusal::UnknownImport(name)) => {
+            Err(Failure::Refused(unknown_import_line(alloc, name)?))
+        }
     }
 }
 
 /// The image of a file's bytes.
 #[tactic(auto, unfolding(crate::specs::Shown::judged))]
-fn judged(alloc: Global, bytes: &[u8]) -> Result<Image, Failure>
-    ensures ok { IfOk result (λ image. (judged bytes.now ≡ Ok image) × (image.imports ≡ [])) }
+fn judged(alloc: Global, bytes: &[u8]) -> Result<Loaded, Failure>
+    ensures ok { IfOk result (λ loaded. (judged bytes.now ≡ Ok loaded.image) × (loaded.slots ≡ addresses_of loaded.image.imports)) }
     ensures refused { IfErr result (λ e. (line : List ℕ) → e ≡ Failure.Refused line → IsRefusalLine line × (judged bytes.now ≡ Err line)) }
     ensures others { IfErr result (λ e. (e ≡ Failure.Unread → ⊥) × (e ≡ Failure.Unwritten → ⊥)) }
 {
     match Image::read(alloc, bytes) {
-        Ok(image) => served(alloc, image),
+        Ok(image) => {
+            let slots = served(alloc, &image)?;
+            Ok(Loaded { image, slots })
+        }
         Err(PeRefusal::OutOfMemory) => Err(Failure::Memory),
         Err(refusal) => Err(refused(alloc, refusal)),
     }
@@ -90,10 +105,10 @@ fn judged(alloc: Global, bytes: &[u8]) -> Result<Image, Failure>
 
 /// Reads an image's file, and judges it.
 #[tactic(auto, using(crate::proofs::Judging::judged_too_large))]
-pub fn read_image<F: Files>(alloc: Global, files: &mut F, sys: &str) -> Result<Image, Failure>
+pub fn read_image<F: Files>(alloc: Global, files: &mut F, sys: &str) -> Result<Loaded, Failure>
     requires { IsTrue (F.may_read files.old sys.now) }
-    ensures ok { IfOk result (λ image. (m : Kept) → F.kept files.old ≡ Some m → judged (bytes_at m sys.now) ≡ Ok image) }
-    ensures no_imports { IfOk result (λ image. image.imports ≡ []) }
+    ensures ok { IfOk result (λ loaded. (m : Kept) → F.kept files.old ≡ Some m → judged (bytes_at m sys.now) ≡ Ok loaded.image) }
+    ensures slots { IfOk result (λ loaded. loaded.slots ≡ addresses_of loaded.image.imports) }
     ensures refused { IfErr result (λ e. (line : List ℕ) → e ≡ Failure.Refused line → IsRefusalLine line
         × ((m : Kept) → F.kept files.old ≡ Some m → judged (bytes_at m sys.now) ≡ Err line)) }
     ensures not_written { IfErr result (λ e. e ≡ Failure.Unwritten → ⊥) }
@@ -114,20 +129,21 @@ pub fn read_image<F: Files>(alloc: Global, files: &mut F, sys: &str) -> Result<I
 #[derive(Drop)]
 pub struct Finished {
     pub ending: Ending,
-    /// How many instructions it took.
-    pub charged: u32,
+    /// What it was charged.
+    pub charged: u64,
     pub log: Log,
 }
 
 /// Runs DriverEntry of an image.
-pub fn run_image(alloc: Global, image: &Image) -> Result<Finished, OutOfMemory>
-    ghost inputs: { Inputs }
-    requires given { inputs ≡ usual image.now }
-    requires no_imports { image.now.imports ≡ [] }
-    ensures { IfOk result (λ finished. HasRun image.now finished.ending finished.charged (log_text finished.log.entries)) }
+pub fn run_image(alloc: Global, loaded: &Loaded) -> Result<Finished, OutOfMemory>
+    ghost setting: { Setting }
+    requires given { setting ≡ usual loaded.now.image }
+    requires slots { loaded.now.slots ≡ addresses_of loaded.now.image.imports }
+    ensures { IfOk result (λ finished. HasRun loaded.now.image finished.ending finished.charged (log_text finished.log.entries)) }
 {
-    let mut session = Session::enter(alloc, image, BUDGET)?;
-    let ending = session.finish()?;
+    slot_laws();
+    let mut session = Session::enter(alloc, &loaded.image, &loaded.slots, Layout::usual(), BUDGET)?;
+    let ending = session.finish(alloc)?;
     Ok(Finished {
         ending,
         charged: session.charged,
@@ -146,11 +162,11 @@ pub fn log_run<F: Files>(
     requires writable { IsTrue (F.may_write files.old log.now) }
     ensures { RunsAndLogs sys.now log.now result (storage F.Files files.old) (storage F.Files files.new) }
 {
-    let image = match read_image(alloc, files, sys) {
-        Ok(image) => image,
+    let loaded = match read_image(alloc, files, sys) {
+        Ok(loaded) => loaded,
         Err(failure) => return Err(failure),
     };
-    let finished = match run_image(alloc, &image) {
+    let finished = match run_image(alloc, &loaded) {
         Ok(finished) => finished,
         Err(_) => return Err(Failure::Memory),
     };

@@ -1,4 +1,5 @@
--- A driver's loop as a machine: what it asks, and where it is after an outcome.
+-- A driver's loop as a machine: what it asks, and where it is after an outcome. What it does when memory runs out, which ends it, is not in it
+-- (specs/Turns.antt). (The project's own.)
 use Rattle.std.specs.Prelude.{List, [], ◌∷◌, Option, Some, None}
 use Rattle.binding.specs.declared.packet.Loan.{Loan}
 use Rattle.log_fields.specs.declared.field_values.Condition.TheVariants.{All}

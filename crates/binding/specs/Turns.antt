@@ -1,9 +1,10 @@
 -- The turns of a driver's loop, each an event with its outcome. They are kept with the newest first. (The project's own.)
-use Rattle.std.specs.Prelude.{◌≡◌, ℕ, Bool, List, [], ◌∷◌, map, Some}
+use Rattle.std.specs.Prelude.{◌≡◌, ℕ, Bool, true, false, List, [], ◌∷◌, map, Some}
 use Rattle.binding.specs.declared.events.Command.TheVariants as commands
 use Rattle.binding.specs.declared.events.Event.{Event}
 use Rattle.binding.specs.declared.events.Event.TheVariants as events
 use Rattle.binding.specs.declared.events.Outcome.{Outcome}
+use Rattle.binding.specs.declared.events.Outcome.TheVariants as outcomes
 use Rattle.binding.specs.Meaning.{Meaning, MayAnswer}
 use Rattle.binding.specs.Loop.{Loop, asks, after}
 
@@ -14,10 +15,16 @@ pub record Turn : Type 0 where
   pub outcome : Outcome
   pub stands : Bool
 
--- The loop that begins at x made these turns and is then at y: each event is the one that the loop asks there
+-- memory ran out
+abbrev pub is_refused_memory : Outcome → Bool
+is_refused_memory (outcomes.OutOfMemory e) = true
+is_refused_memory o = false
+
+-- The loop that begins at x made these turns and is then at y: each event is the one that the loop asks there, and memory never ran out. A
+-- driver whose memory ran out has left its loop.
 abbrev pub Made : {P : Type 0} → Meaning P → Loop P → List Turn → Loop P → Type 0
 Made m x [] y = x ≡ y
-Made {P} m x (t ∷ ts) y = (z : Loop P) × Made m x ts z × (asks m z ≡ Some t.event) × (y ≡ after m z t.outcome)
+Made {P} m x (t ∷ ts) y = (z : Loop P) × Made m x ts z × (asks m z ≡ Some t.event) × (y ≡ after m z t.outcome) × (is_refused_memory t.outcome ≡ false)
 
 -- what a bound driver may be answered
 abbrev pub Possible : Event → Outcome → Type 0

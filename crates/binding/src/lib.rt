@@ -14,6 +14,7 @@ mod protocol;
 mod script_driver;
 mod section;
 
+pub use driver_script::{AdapterLine, Line, ParamLine, Script, ScriptRefusal};
 pub use events::{Act, Command, Event, Notice, Outcome, Point};
 pub use laws::{acts_are_told, loans_are_kept, scripts_are_followed};
 pub use log_fields::{Cause, Condition, Question};

@@ -18,7 +18,10 @@ fn makes(alloc: Global, len: usize) -> bool {
         return false;
     };
     match Packet::new(bytes) {
-        Ok(packet) => packet.spend().len() == len,
+        Ok(packet) => {
+            let seen = packet.as_slice().len();
+            packet.spend().len() == len && seen == len
+        }
         Err(_) => false,
     }
 }

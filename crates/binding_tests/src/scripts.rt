@@ -1,16 +1,18 @@
 //! Drivers that follow a script, told by hand what a node would tell them.
 
 use binding::{
-    Act, Command, Condition, Loan, Notice, Outcome, Packet, Protocol, Question, ScriptDriver,
+    Act, Cause, Command, Condition, Loan, Notice, Outcome, Packet, Protocol, Question, ScriptDriver,
 };
 use driver_script::{Script, scripts_are_sound};
 use nd_base::{BindingNo, Bytes, LoanNo, PacketNo, RequestNo, Status};
 use std::alloc::Global;
 
 /// What a driver may want, as a test says it.
+#[derive(Drop)]
 enum Want<'a> {
     Sends(&'a [u8]),
     Asks,
+    Sets(&'a [u8]),
     AwaitsRoom,
     Awaits(Condition),
     Returns(u64),
@@ -31,6 +33,25 @@ fn driver_of(alloc: Global, section: &[u8]) -> Option<ScriptDriver> {
         return None;
     }
     ScriptDriver::of_script(alloc, &script, BindingNo(0)).ok()
+}
+
+/// Two drivers, each on the adapter of the other one's number.
+const CROSSED: &[u8] = b"adapter 0 x port 0300 irq 5 mac 020000000001\n\
+adapter 1 x port 0320 irq 6 mac 020000000002\n\
+driver 0 on 1\n\
+burst 1 16\n\
+driver 1 on 0\n\
+burst 1 16\n\
+await up\n";
+
+/// The driver of this number of a script.
+fn driver_at(alloc: Global, text: &[u8], number: u8) -> Option<ScriptDriver> {
+    scripts_are_sound();
+    let script = Script::read(alloc, text).ok()?;
+    if usize::from(number) >= script.drivers().len() {
+        return None;
+    }
+    ScriptDriver::of_script(alloc, &script, BindingNo(number)).ok()
 }
 
 /// Ends a loan. Its number.
@@ -59,12 +80,16 @@ fn is_wanted(command: Command, want: &Want<'_>) -> bool {
         Command::Ask(Question::Query { oid, length }) => {
             matches!(want, Want::Asks) && oid == 0x0001_0107 && length == 4
         }
+        Command::Ask(Question::Set { oid, bytes }) => match want {
+            Want::Sets(wanted) => oid == 0x0001_010e && bytes.as_slice() == *wanted,
+            _ => false,
+        },
         Command::Await(Condition::Room) => matches!(want, Want::AwaitsRoom),
         Command::Await(what) => match want {
             Want::Awaits(wanted) => what == *wanted,
             _ => false,
         },
-        Command::Ask(_) | Command::Bind | Command::Unbind | Command::Done => false,
+        Command::Bind | Command::Unbind | Command::Done => false,
     }
 }
 
@@ -220,6 +245,27 @@ fn bursts(driver: &mut ScriptDriver) -> bool {
         && wants(driver, &Want::Ends)
 }
 
+/// Packet 0 of a burst of 16 bytes over the other station address.
+const OTHER: &[u8] = &[
+    255, 255, 255, 255, 255, 255, 2, 0, 0, 0, 0, 2, 0x88, 0xb5, 0, 1,
+];
+
+/// Whether the driver of this number sends this packet first, and wants this then.
+fn crosses(alloc: Global, number: u8, sends: &[u8], then: &Want<'_>) -> bool {
+    let Some(mut driver) = driver_at(alloc, CROSSED, number) else {
+        return false;
+    };
+    let done = wants(&mut driver, &Want::Sends(sends))
+        && is_told(&mut driver, Outcome::Sent(PacketNo(0)))
+        && wants(&mut driver, then);
+    end(driver) == 0 && done
+}
+
+/// Each driver has its own section, over the station address of its own adapter.
+fn all_cross(alloc: Global) -> bool {
+    crosses(alloc, 0, OTHER, &Want::Ends) && crosses(alloc, 1, ZEROTH, &Want::Awaits(Condition::Up))
+}
+
 /// Packet 255 of a burst of 16 bytes.
 const LATE: &[u8] = &[
     255, 255, 255, 255, 255, 255, 2, 0, 0, 0, 0, 1, 0x88, 0xb5, 255, 0,
@@ -268,10 +314,15 @@ fn completes(alloc: Global, driver: &mut ScriptDriver, bytes: &[u8]) -> bool {
     }
 }
 
-/// A completion and a copied frame bring no loan.
+/// Notices but a frame on loan bring no loan.
 fn takes_notices(alloc: Global, driver: &mut ScriptDriver) -> bool {
-    completes(alloc, driver, FIRST)
+    let answered = Notice::Answered(RequestNo(0), Status(0), Bytes::new(alloc));
+    is_told(driver, Outcome::Notice(answered))
+        && completes(alloc, driver, FIRST)
         && is_told(driver, Outcome::Notice(Notice::Copied(Bytes::new(alloc))))
+        && is_told(driver, Outcome::Notice(Notice::Stopped(Cause::Budget)))
+        && wants(driver, &Want::Sets(&[13, 0, 0, 0]))
+        && is_told(driver, Outcome::Asked(RequestNo(1)))
         && wants(driver, &Want::Ends)
 }
 
@@ -347,8 +398,13 @@ fn a_burst_is_sent_packet_by_packet(rt: HostRuntime) {
 }
 
 #[test]
+fn each_driver_has_its_section_and_adapter(rt: HostRuntime) {
+    assert!(rt; all_cross(rt.alloc()));
+}
+
+#[test]
 fn notices_are_taken(rt: HostRuntime) {
-    assert!(rt; does(rt.alloc(), b"", Test::Notices, 0));
+    assert!(rt; does(rt.alloc(), b"set 0001010e 0d000000\n", Test::Notices, 0));
 }
 
 #[test]

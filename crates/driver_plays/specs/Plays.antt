@@ -46,7 +46,8 @@ is_idle events.Pump outcomes.Quiet = false
 is_idle events.Pump o = true
 is_idle e o = false
 
--- A turn that stands has its entry at its place. One that does not has none, or its driver waited for the same already.
+-- A turn that stands has its entry at its place. One that does not has none, or it waits: then Acted says that its driver waited for the same
+-- already.
 pub record IsPlaced (b : BindingNo) (a : AdapterNo) (log : List Entry) (t : Turn) : Type 0 where
   pub within : t.at ≤ length log
   pub entry : t.stands ≡ true → (e : Entry) × (entry_of b a t.event t.outcome ≡ Some e) × (slice_get log t.at ≡ Some e)

@@ -7,7 +7,7 @@ ghost use Rattle.owner_machine.specs.State.{stands};
 ghost use Rattle.owner_machine.specs.Handlers.{outstanding};
 ghost use Rattle.owner_machine.specs.Legal.{start, with_handlers, said_nothing};
 ghost use Rattle.owner_book.specs.Admitting.{Admits};
-ghost use Rattle.owner_book.specs.Standings.{IsStanding, told_of_bound};
+ghost use Rattle.owner_book.specs.Standings.{IsStanding, told_of_bound, first_cancel, first_event};
 ghost use Rattle.owner_book.specs.Stopping.{Stops, stop_room};
 
 use crate::handler_moves::stop;
@@ -64,7 +64,7 @@ impl Book {
     }
 
     /// The miniport has these handlers of NDIS 5.1, or has not: NdisMRegisterMiniport.
-    pub fn register(&mut self, cancelsend: bool, pnpevent: bool)
+    pub fn handlers(&mut self, cancelsend: bool, pnpevent: bool)
         ensures { self.new ≡ with_handlers cancelsend pnpevent self.old }
     {
         self.ledger.cancelsend = cancelsend;
@@ -142,6 +142,25 @@ impl Book {
             }
             _ => None,
         }
+    }
+
+    /// The first cancel id that waits for an adapter's MiniportCancelSendPackets.
+    pub fn next_cancel(&self, a: AdapterNo) -> Option<u32>
+        ensures { result ≡ first_cancel self.now a.0 }
+    {
+        match self.ledger.adapters.get(a.0 as usize) {
+            Some(row) => row.cancels.first(),
+            None => None,
+        }
+    }
+
+    /// The first event that waits for an adapter's MiniportPnPEventNotify: its number and its bytes.
+    pub fn next_event(&self, a: AdapterNo) -> Option<(u32, &[u8])>
+        ensures { option_map (λ e. (e.0, e.1.now)) result ≡ first_event self.now a.0 }
+    {
+        let row = self.ledger.adapters.get(a.0 as usize)?;
+        let event = row.events.first()?;
+        Some((event.number, event.bytes.as_slice()))
     }
 
     /// How many entries it takes to stop every adapter that is not Stopped.

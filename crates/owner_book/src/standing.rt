@@ -3,6 +3,7 @@
 ghost use Rattle.std.specs.Prelude.{◌≡◌, ◌<◌, ◌==◌, not, count_by, length};
 ghost use Rattle.owner_machine.specs.State.{at};
 ghost use Rattle.owner_machine.specs.Requests.{is_set};
+ghost use Rattle.owner_machine.specs.Handlers.{is_none};
 ghost use Rattle.owner_book.specs.Standings.{waiting_request, is_unfinished, IsStanding};
 ghost use Rattle.owner_rules.specs.State.{owner_of};
 
@@ -27,9 +28,13 @@ pub struct Standing {
     pub request: Option<bool>,
     /// Every driver of it has unbound.
     pub unbound: bool,
-    /// It has a packet queued or at its miniport, a loan due, a request not answered, a reset owed or
-    /// not ended, or an open handler.
+    /// It has a packet queued or at its miniport, a loan due, a request not answered, a reset that it
+    /// owes while it runs or that has not ended, or an open handler.
     pub unfinished: bool,
+    /// A cancel id waits for its MiniportCancelSendPackets.
+    pub cancel: bool,
+    /// An event waits for its MiniportPnPEventNotify.
+    pub event: bool,
 }
 
 fn owes_reset(ledger: &Ledger, a: u8) -> bool
@@ -80,9 +85,31 @@ fn is_unfinished(ledger: &Ledger, a: u8) -> bool
     let due = ledger.loans.any(WhichLoans::DueOf(a));
     let asked = ledger.requests.any(WhichRequests::OpenOf(a));
     let owed = owes_reset(ledger, a);
+    let running = ledger.is_running(a);
     let resetting = ledger.is_resetting(a);
     let idle = ledger.none_runs(Group::Any, a);
-    queued || (held || (due || (asked || (owed || (resetting || !idle)))))
+    let owing = running && owed;
+    queued || (held || (due || (asked || (owing || (resetting || !idle)))))
+}
+
+/// Whether a cancel id waits.
+fn has_cancel(ledger: &Ledger, a: u8) -> bool
+    ensures { result ≡ at (λ row. not (is_none row.cancels)) ledger.now.adapters.items a }
+{
+    match ledger.adapters.get(a as usize) {
+        Some(row) => !row.cancels.is_empty(),
+        None => false,
+    }
+}
+
+/// Whether an event waits.
+fn has_event(ledger: &Ledger, a: u8) -> bool
+    ensures { result ≡ at (λ row. not (is_none row.events)) ledger.now.adapters.items a }
+{
+    match ledger.adapters.get(a as usize) {
+        Some(row) => !row.events.is_empty(),
+        None => false,
+    }
 }
 
 /// How an adapter stands.
@@ -101,5 +128,7 @@ pub(crate) fn standing_of(ledger: &Ledger, a: u8) -> Standing
         request: waiting_request(ledger, a),
         unbound: ledger.none_stays_bound(a),
         unfinished: is_unfinished(ledger, a),
+        cancel: has_cancel(ledger, a),
+        event: has_event(ledger, a),
     }
 }

@@ -1,6 +1,6 @@
 //! Books that take the entries of a log's text.
 
-use call_log::{Log, read_log};
+use call_log::{Entry, Log, read_log};
 use nd_base::{AdapterNo, Breach};
 use owner_book::{Book, Refusal};
 use std::alloc::Global;
@@ -30,7 +30,7 @@ bind 1 0\n";
 
 /// What a book makes of a log's text.
 #[derive(Clone, Copy, PartialEq, Eq)]
-pub enum Taken {
+enum Taken {
     /// Every entry is taken.
     All,
     /// The entry of this line, from 1, breaks this rule.
@@ -39,14 +39,23 @@ pub enum Taken {
     Nothing,
 }
 
+/// The rule that an entry breaks, 0 for none; none where memory is wanted.
+pub fn rule_of(book: &mut Book, entry: &Entry) -> Option<u8> {
+    match book.admit(entry) {
+        Ok(()) => Some(0),
+        Err(Refusal::Broken(Breach(rule))) => Some(rule),
+        Err(Refusal::OutOfMemory) => None,
+    }
+}
+
 /// The first entry of a log that breaks a rule.
 fn first_broken(book: &mut Book, log: &Log) -> Taken {
     for i in 0..log.len() {
         if let Some(e) = log.entry(i) {
-            match book.admit(e) {
-                Ok(()) => {}
-                Err(Refusal::Broken(Breach(rule))) => return Taken::Not(i.saturating_add(1), rule),
-                Err(Refusal::OutOfMemory) => return Taken::Nothing,
+            match rule_of(book, e) {
+                Some(0) => {}
+                Some(rule) => return Taken::Not(i.saturating_add(1), rule),
+                None => return Taken::Nothing,
             }
         }
     }
@@ -54,42 +63,54 @@ fn first_broken(book: &mut Book, log: &Log) -> Taken {
 }
 
 /// What a book makes of a text.
-pub fn take(alloc: Global, book: &mut Book, text: &[u8]) -> Taken {
+fn take(alloc: Global, book: &mut Book, text: &[u8]) -> Taken {
     match read_log(alloc, text) {
         Ok(log) => first_broken(book, &log),
         Err(_) => Taken::Nothing,
     }
 }
 
-/// A book of two adapters, which has taken the text.
-pub fn book_behind(alloc: Global, text: &[u8]) -> Option<Book> {
+/// Whether a book takes a text whole.
+pub fn takes(alloc: Global, book: &mut Book, text: &[u8]) -> bool {
+    take(alloc, book, text) == Taken::All
+}
+
+/// Whether a book takes a text up to this line, which breaks this rule.
+pub fn breaks(alloc: Global, book: &mut Book, text: &[u8], line: u64, rule: u8) -> bool {
+    take(alloc, book, text) == Taken::Not(line, rule)
+}
+
+/// Whether something holds of a book of two adapters that has taken the text.
+pub fn behind<F: FnOnce(Global, &mut Book) -> bool>(alloc: Global, first: &[u8], holds: F) -> bool
+    requires { F.IsAlwaysCallable holds }
+{
     match Book::new(alloc, 2, &DRIVERS) {
         Ok(mut book) => {
-            if take(alloc, &mut book, text) == Taken::All {
-                Some(book)
-            } else {
-                None
-            }
+            book.handlers(true, true);
+            takes(alloc, &mut book, first) && holds(alloc, &mut book)
         }
-        Err(_) => None,
+        Err(_) => false,
     }
 }
 
-/// What a book that has taken the first text makes of the second.
-pub fn outcome(alloc: Global, first: &[u8], text: &[u8]) -> Taken {
-    match book_behind(alloc, first) {
-        Some(mut book) => take(alloc, &mut book, text),
-        None => Taken::Nothing,
+/// A text that is refused behind another: at which line, by which rule.
+#[derive(Clone, Copy)]
+pub struct Refused<'t> {
+    pub first: &'t [u8],
+    pub text: &'t [u8],
+    pub line: u64,
+    pub rule: u8,
+}
+
+/// The first of these texts that is not refused as it is to be, from 1; 0 for none.
+pub fn first_taken(alloc: Global, rows: &[Refused]) -> usize {
+    for (i, row) in rows.iter().enumerate() {
+        let row = *row;
+        if !behind(alloc, row.first, |alloc, book| {
+            breaks(alloc, book, row.text, row.line, row.rule)
+        }) {
+            return i.saturating_add(1);
+        }
     }
-}
-
-/// Whether a book that has taken the first text takes the second whole.
-pub fn takes(alloc: Global, first: &[u8], text: &[u8]) -> bool {
-    outcome(alloc, first, text) == Taken::All
-}
-
-/// Whether a book that has taken the first text takes the second up to this line, which breaks this
-/// rule.
-pub fn breaks(alloc: Global, first: &[u8], text: &[u8], line: u64, rule: u8) -> bool {
-    outcome(alloc, first, text) == Taken::Not(line, rule)
+    0
 }

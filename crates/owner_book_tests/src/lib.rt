@@ -4,6 +4,8 @@
 #[cfg(test)]
 mod books;
 #[cfg(test)]
+mod handlers;
+#[cfg(test)]
 mod loans;
 #[cfg(test)]
 mod packets;
@@ -11,3 +13,5 @@ mod packets;
 mod requests;
 #[cfg(test)]
 mod stops;
+#[cfg(test)]
+mod waiting;

@@ -1,6 +1,6 @@
 //! Stops.
 
-use crate::books::{RUNNING, Taken, book_behind, take};
+use crate::books::{RUNNING, behind, breaks, takes};
 use call_log::{Cause, Log, put_line};
 use nd_base::{AdapterNo, Breach, Bytes};
 use owner_book::Book;
@@ -59,30 +59,29 @@ fn writes_its_stop(alloc: Global, book: &mut Book, log: &mut Log) -> bool {
     text_is(alloc, log, STOPPED) && book.outstanding(adapter) == 0 && !book.stands(adapter)
 }
 
+fn stops(alloc: Global, book: &mut Book) -> bool {
+    let mut log = Log::new(alloc);
+    writes_its_stop(alloc, book, &mut log)
+}
+
 fn is_quiet_behind(alloc: Global, book: &mut Book) -> bool {
-    take(
+    takes(
         alloc,
         book,
         b"send 0 2 ffffffffffff0000000000010800\ncomplete 2 c0010002\nask 0 2 query 00010107 4\nanswer 2 c0010002 -\n",
-    ) == Taken::All
-        && take(alloc, book, b"enter 0 0 timer - -\n") == Taken::Not(1, 9)
-        && take(alloc, book, b"return 0 0\n") == Taken::Not(1, 2)
+    ) && breaks(alloc, book, b"enter 0 0 timer - -\n", 1, 9)
+        && breaks(alloc, book, b"return 0 0\n", 1, 2)
 }
 
 /// A stop ends what is outstanding, in order; behind it a send and a question are refused with CLOSING.
 #[test]
 fn a_stop_ends_what_is_outstanding(rt: HostRuntime) {
-    let alloc = rt.alloc();
-    let mut log = Log::new(alloc);
-    let stopped = match book_behind(alloc, RUNNING) {
-        Some(mut book) => {
-            take(alloc, &mut book, BUSY) == Taken::All
-                && book.outstanding(AdapterNo(0)) == 4
-                && book.stop_room() == 6
-                && writes_its_stop(alloc, &mut book, &mut log)
-                && is_quiet_behind(alloc, &mut book)
-        }
-        None => false,
-    };
+    let stopped = behind(rt.alloc(), RUNNING, |alloc, book| {
+        takes(alloc, book, BUSY)
+            && book.outstanding(AdapterNo(0)) == 4
+            && book.stop_room() == 6
+            && stops(alloc, book)
+            && is_quiet_behind(alloc, book)
+    });
     assert!(rt; stopped);
 }

@@ -1,3 +1,4 @@
 pub mod OctetLaws
 pub mod TableLaws
 pub mod Emission
+pub mod Differing

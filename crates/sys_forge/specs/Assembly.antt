@@ -13,10 +13,17 @@ use Rattle.sys_forge.specs.declared.refusal.ForgeRefusal.TheVariants as refusals
 abbrev pub none_met : Met
 none_met = record { labels = 0; imports = 0 }
 
+-- what it is that a line has its bytes at an address, where so much was met, and what is met behind it
+abbrev pub Says : Type 1
+Says = Met → ℕ → List ℕ → List ℕ → Met → Type 0
+
 -- lines have bytes, one behind the other from 0x80101000 on, behind so many bytes and what was met
-unfoldable pub Puts : Tables → ℕ → Met → List (List ℕ) → List ℕ → Met → Type 0
-Puts t done met [] bytes last = (bytes ≡ []) × (last ≡ met)
-Puts t done met (line ∷ ls) bytes last = (piece : List ℕ) × (rest : List ℕ) × (next : Met) × IsLine t met (0x80101000 + done) line piece next × Puts t (done + length piece) next ls rest last × (bytes ≡ piece ++ rest)
+unfoldable pub PutsBy : Says → ℕ → Met → List (List ℕ) → List ℕ → Met → Type 0
+PutsBy Line done met [] bytes last = (bytes ≡ []) × (last ≡ met)
+PutsBy Line done met (line ∷ ls) bytes last = (piece : List ℕ) × (rest : List ℕ) × (next : Met) × Line met (0x80101000 + done) line piece next × PutsBy Line (done + length piece) next ls rest last × (bytes ≡ piece ++ rest)
+
+abbrev pub Puts : Tables → ℕ → Met → List (List ℕ) → List ℕ → Met → Type 0
+Puts t done met ls bytes last = PutsBy (IsLine t) done met ls bytes last
 
 -- each label and each import of the tables was met, and the words stand behind the text
 pub record IsWhole (t : Tables) (met : Met) (size : ℕ) : Type 0 where

@@ -5,3 +5,6 @@ pub mod Reasons
 pub mod Pieces
 pub mod Refusals
 pub mod Assembly
+pub mod Moved
+pub mod Places
+pub mod Whole

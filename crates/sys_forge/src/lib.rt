@@ -3,16 +3,21 @@
 //! The text stands at 0x80101000, and behind it one zero word for each import name, in the order of
 //! first use. What it is that bytes are those of a source is a relation (specs/Assembly.antt): each
 //! line has its bytes, labels are the addresses at which they stand, and an instruction's bytes spell
-//! it, and so decode to it.
+//! it, and so decode to it. With it come the places of the words that hold addresses: where these are
+//! moved, the bytes are those of the same lines further on (specs/Moved.antt).
 #![tactic(auto)]
 
 mod assembly;
+mod moved;
 mod octets;
 mod piece;
+mod places;
 mod plan;
 mod refusal;
 mod table;
 mod values;
 
-pub use assembly::assemble;
+pub use assembly::{Assembled, assemble, assemble_with_places};
+pub use piece::Tables;
 pub use refusal::ForgeRefusal;
+pub use table::Table;

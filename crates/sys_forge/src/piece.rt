@@ -25,6 +25,10 @@ pub const TEXT: u32 = 0x8010_1000;
 /// The most bytes of text and words, so that the image is of 4 MiB at most.
 pub const MOST: usize = 0x3F_F000;
 
+/// How far text stands from where it stands, to see which of its words hold addresses: each byte of an
+/// address changes with it.
+pub const DISTANCE: u32 = 0x0101_0101;
+
 /// The addresses of labels, and the words of imports.
 #[derive(Drop)]
 pub struct Tables {
@@ -152,21 +156,21 @@ fn met_label(tables: &Tables, met: Met, name: &[u8], at: u32) -> Option<Met>
     })
 }
 
-/// Puts what a line says behind others, and answers what is met then.
-fn put_content(
+/// Puts what a line says at an address behind others, and answers what is met then.
+pub fn put_content(
     out: &mut Bytes,
     tables: &Tables,
     met: Met,
     content: &Content<'_>,
+    at: u32,
 ) -> Result<Met, Refused>
-    requires room { length out.old ≤ 0x3FF000 }
+    requires low { at < 2 ^ 31 + 2 ^ 30 }
     requires labels { met.labels < 2 ^ 64 - 1 }
     requires imports { met.imports ≤ 0x3FF000 }
     ensures labels { IfOk result (λ next. next.labels ≤ met.labels + 1) }
-    ensures ok { IfOk result (λ next. Adds out.old out.new (λ piece. IsPiece tables.now met (0x80101000 + length out.old) (content_seen content.now) piece next)) }
-    ensures err { IfErr result (λ why. IsBadContent tables.now met (0x80101000 + length out.old) (content_seen content.now) why) }
+    ensures ok { IfOk result (λ next. Adds out.old out.new (λ piece. IsPiece tables.now met at (content_seen content.now) piece next)) }
+    ensures err { IfErr result (λ why. IsBadContent tables.now met at (content_seen content.now) why) }
 {
-    let at = TEXT + out.len() as u32;
     match *content {
         Content::Nothing => Ok(met),
         Content::Label(name) => match met_label(tables, met, name, at) {
@@ -207,7 +211,8 @@ pub fn put_line(out: &mut Bytes, tables: &Tables, met: Met, line: &[u8]) -> Resu
     let Some(content) = line_content(line) else {
         return Err(Refused::Line);
     };
-    let next = put_content(out, tables, met, &content)?;
+    let at = TEXT + out.len() as u32;
+    let next = put_content(out, tables, met, &content, at)?;
     if out.len() > MOST || out.len() + 4 * next.imports > MOST {
         return Err(Refused::Range);
     }

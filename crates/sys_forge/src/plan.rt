@@ -1,8 +1,8 @@
 //! Where labels and the words of imports stand.
 
-ghost use Rattle.std.specs.Prelude.{◌<◌, ◌+◌, ◌^◌};
+ghost use Rattle.std.specs.Prelude.{◌≡◌, ◌<◌, ◌+◌, ◌^◌, IfOk};
 
-use crate::piece::{MOST, TEXT, Tables};
+use crate::piece::{DISTANCE, MOST, TEXT, Tables};
 use crate::table::Table;
 use asm_encode::{Given, Operation, spelled};
 use asm_lines::{Argument, Content, Place, Statement, Value, line_content};
@@ -70,17 +70,26 @@ fn content_length(content: &Content<'_>, at: u32) -> usize
     }
 }
 
+/// Where the labels and the words of the imports of a source stand, and where they do if all stands
+/// a distance further.
+#[derive(Drop)]
+pub struct Layouts {
+    pub tables: Tables,
+    pub moved: Tables,
+}
+
 /// Notes a line's label or import.
 fn note(
     alloc: Global,
-    labels: &mut Table,
-    imports: &mut Table,
+    tables: &mut Tables,
     content: &Content<'_>,
     at: u32,
-) -> Result<(), OutOfMemory> {
+) -> Result<(), OutOfMemory>
+    ensures { tables.new.words ≡ tables.old.words }
+{
     match content {
-        Content::Label(name) => labels.add(alloc, name, at),
-        Content::Import(name) => imports.add(alloc, name, 0),
+        Content::Label(name) => tables.labels.add(alloc, name, at),
+        Content::Import(name) => tables.imports.add(alloc, name, 0),
         _ => Ok(()),
     }
 }
@@ -97,22 +106,34 @@ fn behind(at: u32, bytes: usize) -> u32
     at + bytes as u32
 }
 
-/// Where the labels and the words of the imports of a source stand.
-pub fn plan(alloc: Global, text: &[u8]) -> Result<Tables, OutOfMemory> {
-    let mut tables = Tables {
+/// No labels and imports, and the words at the begin of the text.
+fn begun(alloc: Global) -> Tables
+    ensures { result.words ≡ 0x80101000 }
+{
+    Tables {
         labels: Table::new(alloc),
         imports: Table::new(alloc),
         words: TEXT,
-    };
+    }
+}
+
+/// Where the labels and the words of the imports of a source stand.
+pub fn plan(alloc: Global, text: &[u8]) -> Result<Layouts, OutOfMemory>
+    ensures { IfOk result (λ p. p.moved.words ≡ p.tables.words + 0x01010101) }
+{
+    let mut tables = begun(alloc);
+    let mut moved = begun(alloc);
     let mut rest = text;
     while !rest.is_empty() {
         let (line, others) = next_line(rest);
         if let Some(content) = line_content(line) {
             let at = tables.words;
-            note(alloc, &mut tables.labels, &mut tables.imports, &content, at)?;
+            note(alloc, &mut tables, &content, at)?;
+            note(alloc, &mut moved, &content, at + DISTANCE)?;
             tables.words = behind(at, content_length(&content, at));
         }
         rest = others;
     }
-    Ok(tables)
+    moved.words = tables.words + DISTANCE;
+    Ok(Layouts { tables, moved })
 }

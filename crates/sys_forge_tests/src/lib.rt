@@ -4,7 +4,7 @@
 #[cfg(test)]
 mod tests {
     use std::alloc::Global;
-    use sys_forge::{ForgeRefusal, assemble};
+    use sys_forge::{ForgeRefusal, assemble, assemble_with_places};
 
     fn gives(alloc: Global, text: &[u8], wanted: &[u8]) -> bool {
         match assemble(alloc, text) {
@@ -146,6 +146,23 @@ on:\nmov ecx, dword [back]\nmov edx, on\ndd on";
             0x80,
         ];
         assert!(rt; leads_far(rt.alloc(), &jumps, &end));
+    }
+
+    fn has_places(alloc: Global, text: &[u8], wanted: &[u32]) -> bool {
+        match assemble_with_places(alloc, text) {
+            Ok(what) => what.places.as_slice() == wanted,
+            Err(_) => false,
+        }
+    }
+
+    /// The places are counted from the encodings of Intel's manual.
+    #[test]
+    fn words_with_addresses(rt: HostRuntime) {
+        let text = b"start:\n mov eax, there\n mov dword [eax+there], start\n jmp there\n call @A\n\
+ loop 0x80101010\n mov word [there], 0x8010\n push 0x80101000\nthere:\n dd there\n dd 5\n";
+        // b8 (there); c7 80 (there) (start); e9 ..; ff 15 (A); e2 ..; 66 c7 05 (there) 10 80; 68 ..; (there)
+        assert!(rt; has_places(rt.alloc(), text, &[1, 7, 11, 22, 31, 42]));
+        assert!(rt; has_places(rt.alloc(), b"nop\n jmp 0x80101000", &[]));
     }
 
     #[test]

@@ -1,0 +1,12 @@
+pub mod Rows
+pub mod Standing
+pub mod Ones
+pub mod Calls
+pub mod Listed
+pub mod Room
+pub mod Replied
+pub mod Stops
+pub mod Made
+pub mod Ends
+pub mod Asks
+pub mod Handed

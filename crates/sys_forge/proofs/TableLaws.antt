@@ -1,6 +1,7 @@
 -- A table's rows as its map holds them.
-use Rattle.std.proofs.Common.{◌≡◌, ℕ, suc, ◌+◌, Bool, true, false, cond, not, List, [], ◌∷◌, ◌++◌, length, Vec, Option, None, Some, is_some, refl, sym, ap, ◌∙◌}
-use Rattle.std.specs.List.{position, position_or_len}
+use Rattle.std.proofs.Common.{◌≡◌, ℕ, zero, suc, ◌+◌, Bool, true, false, cond, not, List, [], ◌∷◌, ◌++◌, length, Vec, Option, None, Some, is_some, refl, sym, ap, ◌∙◌}
+use Rattle.std.specs.List.{position, position_or_len, slice_get}
+use Rattle.std.specs.Option.{option_map}
 use Rattle.std.specs.Str.{bytes_eq}
 use Rattle.std.specs.Map.{keys_of, lookup}
 use Rattle.std.specs.declared.alloc.Global.{Global}
@@ -56,3 +57,11 @@ row-added name number es key h e = behind es ∙ sym (cond-false _ _ _ (ap is_so
 pub none_from : {A : Type 0} (o : Option A) → is_some o ≡ false → o ≡ None
 none_from None h = refl
 none_from (Some x) h = absurd (cc)
+
+abbrev pub key_of : Vec ℕ Global × ℕ → List ℕ
+key_of e = e.0.items
+
+pub name-at : (es : Entries) (place : ℕ) → slice_get (keys_of (rows_in es)) place ≡ option_map key_of (slice_get es place)
+name-at [] place = refl
+name-at (e ∷ es) zero = refl
+name-at (e ∷ es) (suc place) = name-at es place

@@ -60,8 +60,8 @@ fn put_zeros(alloc: Global, out: &mut Bytes, count: usize) -> Result<(), OutOfMe
     out.extend_from_slice(zeros.as_slice())
 }
 
-/// How many lines there are.
-fn line_count(text: &[u8]) -> u64
+/// How many lines a source has.
+pub fn line_count(text: &[u8]) -> u64
     ensures value { result ≡ length (lines text.now) }
     ensures low { result ≤ length text.now }
 {

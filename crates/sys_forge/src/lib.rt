@@ -17,7 +17,7 @@ mod refusal;
 mod table;
 mod values;
 
-pub use assembly::{Assembled, assemble, assemble_with_places};
+pub use assembly::{Assembled, assemble, assemble_with_places, line_count};
 pub use piece::Tables;
 pub use refusal::ForgeRefusal;
 pub use table::Table;

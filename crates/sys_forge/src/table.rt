@@ -1,6 +1,9 @@
 //! Names with numbers, each name once, in the order in which they were met.
 
 ghost use Rattle.std.specs.Prelude.{◌≡◌, [], length, OnOk};
+ghost use Rattle.std.specs.List.{slice_get};
+ghost use Rattle.std.specs.Map.{keys_of};
+ghost use Rattle.std.specs.Option.{option_map};
 ghost use Rattle.sys_forge.specs.Tables.{row_of, with_row};
 
 use indexmap::IndexMap;
@@ -59,6 +62,16 @@ impl Table {
     {
         match self.numbers.get_full(name) {
             Some((place, _, number)) => Some((place, *number)),
+            None => None,
+        }
+    }
+
+    /// The name at a place.
+    pub fn name(&self, place: usize) -> Option<&[u8]>
+        ensures { option_map (λ name. name.now) result ≡ slice_get (keys_of self.now) place }
+    {
+        match self.numbers.get_index(place) {
+            Some((name, _)) => Some(name.as_slice()),
             None => None,
         }
     }

@@ -25,6 +25,7 @@ pub enum Stop {
 
 /// A byte.
 #[tactic(auto, unfolding(crate::specs::Numbers::octet))]
+#[inline(always)]
 pub fn octet(bytes: &[u8]) -> Result<(u8, &[u8]), Stop>
     ensures { Gives (λ x. (x.0, x.1.now)) result (octet.read bytes.now) }
 {
@@ -36,6 +37,7 @@ pub fn octet(bytes: &[u8]) -> Result<(u8, &[u8]), Stop>
 
 /// A number of two bytes, the low one first.
 #[tactic(auto, unfolding(crate::specs::Numbers::octet, crate::specs::Numbers::little_endian_2))]
+#[inline(always)]
 pub fn little_endian_2(bytes: &[u8]) -> Result<(u16, &[u8]), Stop>
     ensures { Gives (λ x. (x.0, x.1.now)) result (little_endian_2.read bytes.now) }
 {
@@ -47,6 +49,7 @@ pub fn little_endian_2(bytes: &[u8]) -> Result<(u16, &[u8]), Stop>
 
 /// A number of four bytes, the low one first.
 #[tactic(auto, unfolding(crate::specs::Numbers::octet, crate::specs::Numbers::little_endian_4))]
+#[inline(always)]
 pub fn little_endian_4(bytes: &[u8]) -> Result<(u32, &[u8]), Stop>
     ensures { Gives (λ x. (x.0, x.1.now)) result (little_endian_4.read bytes.now) }
 {

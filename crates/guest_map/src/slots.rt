@@ -22,6 +22,7 @@ pub fn slot_address(slot: Slot) -> Addr
 
 /// The slot whose address this is.
 #[tactic(auto, unfolding(crate::specs::Slots::slot_at))]
+#[inline]
 pub fn slot_at(address: Addr) -> Option<Slot>
     ensures value { result ≡ slots.slot_at address.0 }
     ensures exact { AreSlotsAt address.0 result }

@@ -27,6 +27,7 @@ pub struct Computed {
 }
 
 /// A flag as the bit of that weight.
+#[inline(always)]
 fn bit_of(flag: bool, weight: u32) -> u32
     ensures value { result ≡ bit_of flag weight }
     ensures high { result ≤ weight }
@@ -85,6 +86,7 @@ impl Flags {
 
 /// PF of a result.
 #[tactic(auto, unfolding(crate::specs::Flags::has_even_parity))]
+#[inline(always)]
 fn has_even_parity(n: u32) -> bool
     ensures { result ≡ has_even_parity n }
 {
@@ -93,6 +95,7 @@ fn has_even_parity(n: u32) -> bool
 
 /// The flags with SF, ZF and PF by a result.
 #[tactic(auto, unfolding(crate::specs::Flags::with_result))]
+#[inline(always)]
 pub(crate) fn with_result(w: Width, n: u32, flags: Flags) -> Flags
     ensures { result ≡ with_result w n flags }
 {

@@ -29,6 +29,7 @@ pub enum UnaryOp {
 }
 
 /// 1 for a flag that is set.
+#[inline(always)]
 fn one_if(flag: bool) -> u32
     ensures value { result ≡ one_if flag }
     ensures low { result ≤ 1 }
@@ -38,6 +39,7 @@ fn one_if(flag: bool) -> u32
 
 /// OF of a sum.
 #[tactic(auto, using(crate::proofs::Sets::signed_values), unfolding(crate::specs::Sums::sum_overflows))]
+#[inline(always)]
 fn sum_overflows(w: Width, a: u32, b: u32, one: u32) -> bool
     ensures { result ≡ sum_overflows w a b one }
 {
@@ -46,6 +48,7 @@ fn sum_overflows(w: Width, a: u32, b: u32, one: u32) -> bool
 
 /// OF of a difference.
 #[tactic(auto, using(crate::proofs::Sets::signed_values), unfolding(crate::specs::Sums::difference_overflows))]
+#[inline(always)]
 fn difference_overflows(w: Width, a: u32, b: u32, one: u32) -> bool
     ensures { result ≡ difference_overflows w a b one }
 {
@@ -54,6 +57,7 @@ fn difference_overflows(w: Width, a: u32, b: u32, one: u32) -> bool
 
 /// ADD, and with CF ADC.
 #[tactic(auto, unfolding(crate::specs::Sums::sum))]
+#[inline]
 fn sum(w: Width, a: u32, b: u32, carry: bool, flags: Flags) -> Computed
     ensures value { result ≡ sum w a b carry flags }
     ensures fits { result.value < size w }
@@ -75,6 +79,7 @@ fn sum(w: Width, a: u32, b: u32, carry: bool, flags: Flags) -> Computed
 
 /// SUB, with CF SBB, and of 0 NEG.
 #[tactic(auto, unfolding(crate::specs::Sums::difference))]
+#[inline]
 fn difference(w: Width, a: u32, b: u32, borrow: bool, flags: Flags) -> Computed
     requires { b < size w }
     ensures value { result ≡ difference w a b borrow flags }
@@ -97,6 +102,7 @@ fn difference(w: Width, a: u32, b: u32, borrow: bool, flags: Flags) -> Computed
 
 /// The flags of a bitwise operation.
 #[tactic(auto, unfolding(crate::specs::Sums::logic))]
+#[inline]
 fn logic(w: Width, value: u32, flags: Flags) -> Computed
     ensures value { result ≡ logic w value flags }
     ensures same { result.value ≡ value }
@@ -113,6 +119,7 @@ fn logic(w: Width, value: u32, flags: Flags) -> Computed
 
 /// INC.
 #[tactic(auto, unfolding(crate::specs::Sums::increased))]
+#[inline]
 fn increased(w: Width, a: u32, flags: Flags) -> Computed
     ensures value { result ≡ increased w a flags }
     ensures fits { result.value < size w }
@@ -129,6 +136,7 @@ fn increased(w: Width, a: u32, flags: Flags) -> Computed
 
 /// DEC.
 #[tactic(auto, unfolding(crate::specs::Sums::decreased))]
+#[inline]
 fn decreased(w: Width, a: u32, flags: Flags) -> Computed
     ensures value { result ≡ decreased w a flags }
     ensures fits { result.value < size w }
@@ -145,6 +153,7 @@ fn decreased(w: Width, a: u32, flags: Flags) -> Computed
 
 /// NOT.
 #[tactic(auto, unfolding(crate::specs::Sums::inverted))]
+#[inline]
 fn inverted(w: Width, a: u32, flags: Flags) -> Computed
     requires { a < size w }
     ensures value { result ≡ inverted w a flags }
@@ -158,6 +167,7 @@ fn inverted(w: Width, a: u32, flags: Flags) -> Computed
 
 /// What two numbers come to.
 #[tactic(auto, using(crate::proofs::Sets::bit_widths), unfolding(crate::specs::Sums::binary))]
+#[inline]
 pub fn binary(op: BinaryOp, w: Width, a: u32, b: u32, flags: Flags) -> Computed
     requires a_in { a < size w }
     requires b_in { b < size w }
@@ -177,6 +187,7 @@ pub fn binary(op: BinaryOp, w: Width, a: u32, b: u32, flags: Flags) -> Computed
 
 /// What one number comes to.
 #[tactic(auto, unfolding(crate::specs::Sums::unary))]
+#[inline]
 pub fn unary(op: UnaryOp, w: Width, a: u32, flags: Flags) -> Computed
     requires { a < size w }
     ensures value { result ≡ unary op w a flags }

@@ -13,6 +13,7 @@ pub enum Width {
 
 impl Width {
     /// How many bits it has.
+    #[inline(always)]
     pub fn bits(self) -> u8
         ensures value { result ≡ bits self }
         ensures low { 8 ≤ result }
@@ -26,6 +27,7 @@ impl Width {
     }
 
     /// How many bytes it has.
+    #[inline(always)]
     pub fn bytes(self) -> u32
         ensures value { result ≡ bytes self }
         ensures low { 1 ≤ result }
@@ -39,6 +41,7 @@ impl Width {
     }
 
     /// How many numbers there are of it.
+    #[inline(always)]
     pub fn size(self) -> u64
         ensures value { result ≡ size self }
         ensures low { 256 ≤ result }
@@ -52,6 +55,7 @@ impl Width {
     }
 
     /// The first number with the sign bit.
+    #[inline(always)]
     pub fn half(self) -> u64
         ensures value { result ≡ half self }
         ensures low { 128 ≤ result }
@@ -67,6 +71,7 @@ impl Width {
 
 /// Whether the sign bit is set.
 #[tactic(auto, unfolding(crate::specs::Widths::is_negative))]
+#[inline(always)]
 pub fn is_negative(w: Width, n: u32) -> bool
     ensures { result ≡ is_negative w n }
 {
@@ -75,6 +80,7 @@ pub fn is_negative(w: Width, n: u32) -> bool
 
 /// The signed number.
 #[tactic(auto, unfolding(crate::specs::Widths::signed))]
+#[inline(always)]
 pub(crate) fn signed(w: Width, n: u32) -> i64
     ensures value { result ≡ signed w n }
     ensures low { (pos 0 -ℤ pos (2 ^ 32)) ≤ℤ result }
@@ -89,6 +95,7 @@ pub(crate) fn signed(w: Width, n: u32) -> i64
 
 /// Whether a signed number of the width is this one.
 #[tactic(auto, unfolding(crate::specs::Widths::fits_signed))]
+#[inline(always)]
 pub(crate) fn fits_signed(w: Width, n: i64) -> bool
     ensures { result ≡ fits_signed w n }
 {
@@ -97,6 +104,7 @@ pub(crate) fn fits_signed(w: Width, n: i64) -> bool
 
 /// A number of the width `v` as one of `w` with the same sign.
 #[tactic(auto, unfolding(crate::specs::Widths::sign_extended))]
+#[inline]
 pub fn sign_extended(v: Width, w: Width, a: u32) -> u32
     requires wider { size v ≤ size w }
     requires fits { a < size v }

@@ -26,6 +26,7 @@ pub enum Decoded {
 
 /// Prefixes, each once, and what stands behind them.
 #[tactic(auto, unfolding(crate::specs::Prefixes::read_behind))]
+#[inline(always)]
 fn prefixed(bytes: &[u8]) -> Result<(Instr, &[u8]), Stop>
     ensures { Gives (λ x. (x.0, x.1.now)) result (read_behind none bytes.now) }
 {
@@ -46,6 +47,7 @@ fn prefixed(bytes: &[u8]) -> Result<(Instr, &[u8]), Stop>
 
 /// The instruction that a front of the bytes spells.
 #[tactic(auto, unfolding(crate::specs::Decoding::decoded))]
+#[inline]
 pub fn decode(bytes: &[u8]) -> Decoded
     // By spelling alone, that is what the bytes are, and nothing else.
     ensures only { IsOnlyDecoding bytes.now result }

@@ -9,6 +9,7 @@ use crate::instruction::Operand;
 use codes::{Stop, little_endian_2, little_endian_4, octet};
 
 /// A byte as a number of 32 bits with the same sign.
+#[inline(always)]
 pub fn sign_extended(byte: u8) -> u32
     ensures { result ≡ sign_extended byte }
 {
@@ -16,6 +17,7 @@ pub fn sign_extended(byte: u8) -> u32
 }
 
 #[tactic(auto, unfolding(crate::specs::Operands::signed_byte))]
+#[inline(always)]
 fn signed_byte(bytes: &[u8]) -> Result<(u32, &[u8]), Stop>
     ensures { Gives (λ x. (x.0, x.1.now)) result (signed_byte.read bytes.now) }
 {
@@ -24,6 +26,7 @@ fn signed_byte(bytes: &[u8]) -> Result<(u32, &[u8]), Stop>
 }
 
 #[tactic(auto, unfolding(crate::specs::Operands::displacement))]
+#[inline(always)]
 fn displacement(mode: u8, bytes: &[u8]) -> Result<(u32, &[u8]), Stop>
     ensures { Gives (λ x. (x.0, x.1.now)) result ((displacement mode).read bytes.now) }
 {
@@ -36,6 +39,7 @@ fn displacement(mode: u8, bytes: &[u8]) -> Result<(u32, &[u8]), Stop>
 
 /// Memory at a base; but without one, at 32 bits, where the mode is 0 and the base is 5.
 #[tactic(auto, unfolding(crate::specs::Operands::based))]
+#[inline(always)]
 fn based(
     mode: u8,
     base: u8,
@@ -65,6 +69,7 @@ fn based(
     Ok((operand, rest))
 }
 
+#[inline(always)]
 fn index_of(sib: u8) -> Option<u8>
     ensures { result ≡ index_of sib }
 {
@@ -72,6 +77,7 @@ fn index_of(sib: u8) -> Option<u8>
     if index == 4 { None } else { Some(index) }
 }
 
+#[inline(always)]
 fn scale_of(sib: u8) -> u8
     ensures { result ≡ scale_of sib }
 {
@@ -83,6 +89,7 @@ fn scale_of(sib: u8) -> u8
 
 /// What a ModRM byte and those after it name.
 #[tactic(auto, unfolding(crate::specs::Operands::place))]
+#[inline(always)]
 pub fn place(modrm: u8, bytes: &[u8]) -> Result<(Operand, &[u8]), Stop>
     ensures { Gives (λ x. (x.0, x.1.now)) result ((place modrm).read bytes.now) }
 {
@@ -100,6 +107,7 @@ pub fn place(modrm: u8, bytes: &[u8]) -> Result<(Operand, &[u8]), Stop>
 
 /// Memory at an offset alone.
 #[tactic(auto, unfolding(crate::specs::Operands::offset_alone))]
+#[inline(always)]
 pub fn offset_alone(bytes: &[u8]) -> Result<(Operand, &[u8]), Stop>
     ensures { Gives (λ x. (x.0, x.1.now)) result (offset_alone.read bytes.now) }
 {
@@ -115,6 +123,7 @@ pub fn offset_alone(bytes: &[u8]) -> Result<(Operand, &[u8]), Stop>
 
 /// An immediate; one of the operand's size is short behind the prefix 66.
 #[tactic(auto, unfolding(crate::specs::Operands::immediate))]
+#[inline(always)]
 pub fn immediate(kind: Immediate, short: bool, bytes: &[u8]) -> Result<(u32, &[u8]), Stop>
     ensures { Gives (λ x. (x.0, x.1.now)) result ((immediate kind short).read bytes.now) }
 {

@@ -24,18 +24,21 @@ pub const NONE: Prefixes = Prefixes {
     repeat: Repeat::Absent,
 };
 
+#[inline(always)]
 pub fn is_absent(repeat: Repeat) -> bool
     ensures { result ≡ is_absent repeat }
 {
     matches!(repeat, Repeat::Absent)
 }
 
+#[inline(always)]
 pub fn is_prefix(byte: u8) -> bool
     ensures { result ≡ is_prefix byte }
 {
     matches!(byte, 0x66 | 0xF0 | 0xF2 | 0xF3)
 }
 
+#[inline(always)]
 fn repeat_of(prefix: u8) -> Repeat
     ensures { result ≡ repeat_of prefix }
 {
@@ -48,6 +51,7 @@ fn repeat_of(prefix: u8) -> Repeat
 
 /// Is the prefix, or the other one that repeats, among these?
 #[tactic(auto, unfolding(crate::specs::Prefixes::has))]
+#[inline(always)]
 fn has(prefixes: Prefixes, prefix: u8) -> bool
     ensures { result ≡ has prefixes prefix }
 {
@@ -59,6 +63,7 @@ fn has(prefixes: Prefixes, prefix: u8) -> bool
 }
 
 #[tactic(auto, unfolding(crate::specs::Prefixes::with_prefix))]
+#[inline(always)]
 pub fn with_prefix(prefixes: Prefixes, prefix: u8) -> Prefixes
     ensures { result ≡ with_prefix prefixes prefix }
 {
@@ -75,6 +80,7 @@ pub fn with_prefix(prefixes: Prefixes, prefix: u8) -> Prefixes
 }
 
 /// Does no row permit these together?
+#[inline(always)]
 fn is_dead(prefixes: Prefixes) -> bool
     ensures { result ≡ is_dead prefixes }
 {
@@ -82,6 +88,7 @@ fn is_dead(prefixes: Prefixes) -> bool
 }
 
 /// May the prefix stand behind these?
+#[inline(always)]
 pub fn takes(prefixes: Prefixes, prefix: u8) -> bool
     ensures { result ≡ takes prefixes prefix }
 {

@@ -21,6 +21,7 @@ use crate::rows::{Entry, Group, Repeats, Row};
 use crate::second_map::SECOND;
 use codes::Stop;
 
+#[inline(always)]
 fn width_of(width: Width, short: bool) -> u8
     ensures { result ≡ width_of width short }
 {
@@ -31,6 +32,7 @@ fn width_of(width: Width, short: bool) -> u8
     }
 }
 
+#[inline(always)]
 fn operand_of(source: Source, opcode: u8, modrm: u8, rm: Operand) -> Operand
     ensures { result ≡ operand_of source opcode modrm rm }
 {
@@ -46,6 +48,7 @@ fn operand_of(source: Source, opcode: u8, modrm: u8, rm: Operand) -> Operand
 }
 
 #[tactic(auto, unfolding(crate::specs::Rows::built))]
+#[inline(always)]
 pub fn built(
     prefixes: Prefixes,
     opcode: u8,
@@ -67,6 +70,7 @@ pub fn built(
     }
 }
 
+#[inline(always)]
 fn permits(permitted: Repeats, repeat: Repeat) -> bool
     ensures { result ≡ permits permitted repeat }
 {
@@ -79,6 +83,7 @@ fn permits(permitted: Repeats, repeat: Repeat) -> bool
 
 /// May these prefixes stand before the row?
 #[tactic(auto, unfolding(crate::specs::Rows::allows))]
+#[inline(always)]
 pub fn allows(prefixes: Prefixes, row: &Row) -> bool
     ensures { result ≡ allows prefixes row.now }
 {
@@ -89,6 +94,7 @@ pub fn allows(prefixes: Prefixes, row: &Row) -> bool
 
 /// And before this ModRM byte?
 #[tactic(auto, unfolding(crate::specs::Rows::fits))]
+#[inline(always)]
 pub fn fits(prefixes: Prefixes, row: &Row, modrm: u8) -> bool
     ensures { result ≡ fits prefixes row.now modrm }
 {
@@ -97,6 +103,7 @@ pub fn fits(prefixes: Prefixes, row: &Row, modrm: u8) -> bool
 }
 
 #[tactic(auto, unfolding(crate::specs::Rows::ending))]
+#[inline(always)]
 fn ending<'a>(
     prefixes: Prefixes,
     opcode: u8,
@@ -112,6 +119,7 @@ fn ending<'a>(
 }
 
 /// A row from behind the ModRM byte on, if they fit.
+#[inline(always)]
 fn behind_modrm<'a>(
     prefixes: Prefixes,
     opcode: u8,
@@ -130,6 +138,7 @@ fn behind_modrm<'a>(
 }
 
 #[tactic(auto, unfolding(crate::specs::Rows::at_offset))]
+#[inline(always)]
 fn at_offset<'a>(
     prefixes: Prefixes,
     opcode: u8,
@@ -143,6 +152,7 @@ fn at_offset<'a>(
 }
 
 #[tactic(auto, unfolding(crate::specs::Rows::by_modrm))]
+#[inline(always)]
 fn one<'a>(
     prefixes: Prefixes,
     opcode: u8,
@@ -163,6 +173,7 @@ fn one<'a>(
 }
 
 #[tactic(auto, unfolding(crate::specs::Opcodes::rows_of))]
+#[inline(always)]
 pub fn rows_of(group: Group) -> &'static [Option<Row>; 8]
     ensures { result.now ≡ rows_of group }
 {
@@ -188,6 +199,7 @@ pub fn rows_of(group: Group) -> &'static [Option<Row>; 8]
 }
 
 #[tactic(auto, unfolding(crate::specs::Rows::by_modrm))]
+#[inline(always)]
 fn grouped(
     prefixes: Prefixes,
     opcode: u8,
@@ -207,6 +219,7 @@ fn grouped(
     }
 }
 
+#[inline(always)]
 fn may_allow(prefixes: Prefixes, row: &Option<Row>) -> bool
     ensures { result ≡ may_allow prefixes row.now }
 {
@@ -223,6 +236,7 @@ fn any_allow(prefixes: Prefixes, rows: &[Option<Row>]) -> bool
 }
 
 /// May these prefixes stand before some row of the entry?
+#[inline(always)]
 fn opens(prefixes: Prefixes, entry: &Entry) -> bool
     ensures { result ≡ opens prefixes entry.now }
 {
@@ -235,6 +249,7 @@ fn opens(prefixes: Prefixes, entry: &Entry) -> bool
 
 /// What stands behind an opcode.
 #[tactic(auto, unfolding(crate::specs::Opcodes::behind_opcode))]
+#[inline(always)]
 fn behind_opcode<'a>(
     prefixes: Prefixes,
     opcode: u8,
@@ -252,6 +267,7 @@ fn behind_opcode<'a>(
 }
 
 #[tactic(auto, unfolding(crate::specs::Opcodes::first_of))]
+#[inline(always)]
 pub fn first_of(opcode: u8) -> &'static Entry
     ensures { result.now ≡ first_of opcode }
 {
@@ -259,6 +275,7 @@ pub fn first_of(opcode: u8) -> &'static Entry
 }
 
 #[tactic(auto, unfolding(crate::specs::Opcodes::second_of))]
+#[inline(always)]
 pub fn second_of(opcode: u8) -> &'static Entry
     ensures { result.now ≡ second_of opcode }
 {
@@ -285,6 +302,7 @@ fn extended(prefixes: Prefixes, bytes: &[u8]) -> Result<(Instr, &[u8]), Stop>
 
 /// The opcode, and what stands behind it.
 #[tactic(auto, unfolding(crate::specs::Opcodes::body, crate::specs::Opcodes::opens_first))]
+#[inline(always)]
 pub fn body(prefixes: Prefixes, bytes: &[u8]) -> Result<(Instr, &[u8]), Stop>
     ensures { Gives (λ x. (x.0, x.1.now)) result ((body prefixes).read bytes.now) }
 {

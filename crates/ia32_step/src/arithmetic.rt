@@ -17,6 +17,7 @@ use ia32_decode::Instr;
 use nd_mem::Memory;
 
 /// The first operand becomes the value.
+#[inline(always)]
 fn computed(i: &Instr, w: Width, c: Computed, r: &mut Regs) -> Write
     requires { c.value < size w }
     ensures value { left r.new result ≡ computed i.now w r.old c }
@@ -27,6 +28,7 @@ fn computed(i: &Instr, w: Width, c: Computed, r: &mut Regs) -> Write
 
 /// ADD, ADC, AND, OR, SBB, SUB, XOR
 #[tactic(auto, unfolding(crate::specs::Arithmetic::changed))]
+#[inline]
 pub fn changed(op: BinaryOp, i: &Instr, w: Width, r: &mut Regs, m: &Memory) -> Result<Write, Stop>
     ensures { Leaves result r.new (changed op i.now w (machine r.old m.now)) }
 {
@@ -37,6 +39,7 @@ pub fn changed(op: BinaryOp, i: &Instr, w: Width, r: &mut Regs, m: &Memory) -> R
 
 /// CMP, TEST: the flags of SUB and AND alone.
 #[tactic(auto, unfolding(crate::specs::Arithmetic::compared))]
+#[inline]
 pub fn compared(op: BinaryOp, i: &Instr, w: Width, r: &mut Regs, m: &Memory) -> Result<Write, Stop>
     ensures { Leaves result r.new (compared op i.now w (machine r.old m.now)) }
 {
@@ -48,6 +51,7 @@ pub fn compared(op: BinaryOp, i: &Instr, w: Width, r: &mut Regs, m: &Memory) -> 
 
 /// INC, DEC, NEG, NOT
 #[tactic(auto, unfolding(crate::specs::Arithmetic::altered))]
+#[inline]
 pub fn altered(op: UnaryOp, i: &Instr, w: Width, r: &mut Regs, m: &Memory) -> Result<Write, Stop>
     ensures { Leaves result r.new (altered op i.now w (machine r.old m.now)) }
 {

@@ -7,6 +7,7 @@ use ia32_arithmetic::Flags;
 use ia32_decode::Condition;
 
 /// Whether the condition holds.
+#[inline]
 pub fn holds(c: Condition, f: Flags) -> bool
     ensures { result ≡ holds c f }
 {

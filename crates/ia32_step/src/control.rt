@@ -14,6 +14,7 @@ use ia32_decode::{Instr, Operand};
 use nd_mem::Memory;
 
 /// EIP goes on by so much.
+#[inline(always)]
 pub fn advance(n: u32, r: &mut Regs)
     ensures { r.new ≡ advanced n r.old }
 {
@@ -22,6 +23,7 @@ pub fn advance(n: u32, r: &mut Regs)
 
 /// Where a jump or a call goes.
 #[tactic(auto, unfolding(crate::specs::Control::target_of))]
+#[inline(always)]
 fn target_of(i: &Instr, r: &Regs, m: &Memory) -> Result<u32, Stop>
     ensures { result ≡ target_of i.now (machine r.now m.now) }
 {
@@ -39,6 +41,7 @@ fn target_of(i: &Instr, r: &Regs, m: &Memory) -> Result<u32, Stop>
 
 /// JMP
 #[tactic(auto, unfolding(crate::specs::Control::gone))]
+#[inline(always)]
 pub fn gone(i: &Instr, r: &mut Regs, m: &Memory) -> Result<Write, Stop>
     ensures { Leaves result r.new (gone i.now (machine r.old m.now)) }
 {
@@ -48,6 +51,7 @@ pub fn gone(i: &Instr, r: &mut Regs, m: &Memory) -> Result<Write, Stop>
 
 /// Jcc, JECXZ
 #[tactic(auto, unfolding(crate::specs::Control::gone_if))]
+#[inline(always)]
 pub fn gone_if(c: bool, i: &Instr, r: &mut Regs) -> Result<Write, Stop>
     ensures { Leaves result r.new (gone_if c i.now r.old) }
 {
@@ -59,6 +63,7 @@ pub fn gone_if(c: bool, i: &Instr, r: &mut Regs) -> Result<Write, Stop>
 
 /// CALL
 #[tactic(auto, unfolding(crate::specs::Control::called))]
+#[inline]
 pub fn called(i: &Instr, r: &mut Regs, m: &Memory) -> Result<Write, Stop>
     ensures { Leaves result r.new (called i.now (machine r.old m.now)) }
 {
@@ -69,6 +74,7 @@ pub fn called(i: &Instr, r: &mut Regs, m: &Memory) -> Result<Write, Stop>
 
 /// RET
 #[tactic(auto, unfolding(crate::specs::Control::returned))]
+#[inline]
 pub fn returned(i: &Instr, r: &mut Regs, m: &Memory) -> Result<Write, Stop>
     ensures { Leaves result r.new (returned i.now (machine r.old m.now)) }
 {
@@ -80,6 +86,7 @@ pub fn returned(i: &Instr, r: &mut Regs, m: &Memory) -> Result<Write, Stop>
 
 /// LEAVE
 #[tactic(auto, unfolding(crate::specs::Control::left))]
+#[inline]
 pub fn left(r: &mut Regs, m: &Memory) -> Result<Write, Stop>
     ensures { Leaves result r.new (left (machine r.old m.now)) }
 {
@@ -92,6 +99,7 @@ pub fn left(r: &mut Regs, m: &Memory) -> Result<Write, Stop>
 
 /// LOOP, LOOPE and LOOPNE, whose further condition is `c`.
 #[tactic(auto, unfolding(crate::specs::Control::looped))]
+#[inline]
 pub fn looped(c: bool, i: &Instr, r: &mut Regs) -> Result<Write, Stop>
     ensures { Leaves result r.new (looped c i.now r.old) }
 {

@@ -32,6 +32,7 @@ pub enum Write {
 
 /// The address in an operand.
 #[tactic(auto, unfolding(crate::specs::Operands::address_in))]
+#[inline(always)]
 pub fn address_in(o: &Operand, r: &Regs) -> u32
     ensures { result ≡ address_in o.now r.now }
 {
@@ -48,6 +49,7 @@ pub fn address_in(o: &Operand, r: &Regs) -> u32
 
 /// A number into an operand, at this address if it is in memory, where so far this write is left.
 #[tactic(auto, unfolding(crate::specs::Operands::stored_at))]
+#[inline(always)]
 pub fn put(w: Width, o: &Operand, at: u32, v: u32, r: &mut Regs, write: Write) -> Write
     requires fits { v < size w }
     requires write { IsWrite write }
@@ -65,6 +67,7 @@ pub fn put(w: Width, o: &Operand, at: u32, v: u32, r: &mut Regs, write: Write) -
 }
 
 /// A number into an operand, and the flags.
+#[inline(always)]
 pub fn store(w: Width, o: &Operand, v: u32, flags: Flags, r: &mut Regs) -> Write
     requires { v < size w }
     ensures value { left r.new result ≡ stored w o.now v r.old (settled r.old flags) }
@@ -96,6 +99,7 @@ fn bytes_of_all(r: &Regs) -> [u8; 32]
 }
 
 /// Makes the write of an instruction before which the registers were these. A fault changes nothing.
+#[inline(always)]
 pub fn commit(write: Write, before: &Regs, m: &mut Memory) -> Result<(), Stop>
     requires { IsWrite write }
     ensures answer { result ≡ answer_to (written write before.now m.old) }

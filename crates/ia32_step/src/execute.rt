@@ -26,6 +26,7 @@ use ia32_arithmetic::{BinaryOp, BitOp, DoubleShiftOp, Flags, ShiftOp, UnaryOp, W
 use ia32_decode::{Instr, Op};
 use nd_mem::Memory;
 
+#[inline(always)]
 fn width_of(bytes: u8) -> Width
     ensures { result ≡ width_of bytes }
 {
@@ -37,6 +38,7 @@ fn width_of(bytes: u8) -> Width
 }
 
 /// CLC, CMC, STC
+#[inline(always)]
 fn with_carry(carry: bool, r: &mut Regs) -> Result<Write, Stop>
     ensures { Leaves result r.new (Ok (settled r.old (record r.old.flags { carry = carry }))) }
 {
@@ -45,6 +47,7 @@ fn with_carry(carry: bool, r: &mut Regs) -> Result<Write, Stop>
 }
 
 /// CLD, STD
+#[inline(always)]
 fn with_direction(direction: bool, r: &mut Regs) -> Result<Write, Stop>
     ensures { Leaves result r.new (Ok (settled r.old (record r.old.flags { direction = direction }))) }
 {
@@ -54,6 +57,7 @@ fn with_direction(direction: bool, r: &mut Regs) -> Result<Write, Stop>
 
 /// What the instruction leaves, which begins at start, where EIP is already that of the next one.
 #[tactic(auto, unfolding(crate::specs::Meaning::effect_of))]
+#[inline(always)]
 fn effect_of(i: &Instr, start: u32, r: &mut Regs, m: &Memory) -> Result<Write, Stop>
     ensures { Leaves result r.new (effect_of i.now start (machine r.old m.now)) }
 {
@@ -142,6 +146,7 @@ fn effect_of(i: &Instr, start: u32, r: &mut Regs, m: &Memory) -> Result<Write, S
 
 /// Does the instruction, which so many bytes spell. Without a result nothing changes.
 #[tactic(auto, unfolding(crate::specs::Meaning::meaning, crate::specs::Operands::committed))]
+#[inline(always)]
 pub fn execute(i: &Instr, length: u8, r: &mut Regs, m: &mut Memory) -> Result<(), Stop>
     ensures answer { result ≡ answer_to (meaning i.now length (machine r.old m.old)) }
     ensures state { machine r.new m.new ≡ after (meaning i.now length (machine r.old m.old)) (machine r.old m.old) }

@@ -58,6 +58,7 @@ pub enum Stepped {
 }
 
 /// The answer to an access that faults.
+#[inline(always)]
 fn refused(fault: MemFault) -> Stepped
     ensures { result ≡ answer_to (faulted fault) }
 {
@@ -70,6 +71,7 @@ fn refused(fault: MemFault) -> Stepped
 }
 
 /// The answer where an instruction at this EIP has no result.
+#[inline(always)]
 fn stopped(stop: Stop, eip: u32) -> Stepped
     ensures { result ≡ answer_to (stopped stop eip) }
 {
@@ -80,6 +82,7 @@ fn stopped(stop: Stop, eip: u32) -> Stepped
 }
 
 /// Does the instruction, which so many bytes spell.
+#[inline(always)]
 fn run_one(i: &Instr, length: u8, r: &mut Regs, m: &mut Memory) -> Stepped
     ensures answer { result ≡ answer_to (done_by i.now length (machine r.old m.old)) }
     ensures state { machine r.new m.new ≡ after (done_by i.now length (machine r.old m.old)) (machine r.old m.old) }
@@ -92,6 +95,7 @@ fn run_one(i: &Instr, length: u8, r: &mut Regs, m: &mut Memory) -> Stepped
 }
 
 /// The answer where all of these bytes at EIP only begin an instruction.
+#[inline]
 fn cut_off(length: usize, r: &Regs, m: &Memory) -> Stepped
     requires { length ≤ 15 }
     ensures { result ≡ answer_to (cut_off (fault_at Executing (map.get m.now) (r.now.eip + length)) (machine r.now m.now)) }
@@ -106,6 +110,7 @@ fn cut_off(length: usize, r: &Regs, m: &Memory) -> Stepped
 }
 
 /// Runs the instruction that these bytes at EIP begin with.
+#[inline(always)]
 fn run(code: &[u8], r: &mut Regs, m: &mut Memory) -> Stepped
     requires { length code.now ≤ 15 }
     ensures answer { result ≡ answer_to (run_of code.now (machine r.old m.old)) }
@@ -120,6 +125,7 @@ fn run(code: &[u8], r: &mut Regs, m: &mut Memory) -> Stepped
 
 /// One step of the program in `m`. A fault changes nothing.
 #[tactic(auto, unfolding(crate::specs::Machine::outcome))]
+#[inline]
 pub fn step(r: &mut Regs, m: &mut Memory) -> Stepped
     ensures answer { result ≡ answer_to (outcome (machine r.old m.old)) }
     ensures state { machine r.new m.new ≡ moved (machine r.old m.old) }

@@ -20,6 +20,7 @@ const ACCUMULATOR: u8 = 0;
 const DATA: u8 = 2;
 
 /// The first operand becomes the number, and the flags stay.
+#[inline(always)]
 fn into_first(i: &Instr, w: Width, v: u32, r: &mut Regs) -> Write
     requires { v < size w }
     ensures value { left r.new result ≡ into_first i.now w v r.old }
@@ -31,6 +32,7 @@ fn into_first(i: &Instr, w: Width, v: u32, r: &mut Regs) -> Write
 
 /// MOV
 #[tactic(auto, unfolding(crate::specs::Moves::moved))]
+#[inline(always)]
 pub fn moved(i: &Instr, w: Width, r: &mut Regs, m: &Memory) -> Result<Write, Stop>
     ensures { Leaves result r.new (moved i.now w (machine r.old m.now)) }
 {
@@ -93,6 +95,7 @@ pub fn compared_exchanged(i: &Instr, w: Width, r: &mut Regs, m: &Memory) -> Resu
 
 /// LEA
 #[tactic(auto, unfolding(crate::specs::Moves::loaded_address))]
+#[inline]
 pub fn loaded_address(i: &Instr, w: Width, r: &mut Regs) -> Result<Write, Stop>
     ensures { Leaves result r.new (loaded_address i.now w r.old) }
 {
@@ -102,6 +105,7 @@ pub fn loaded_address(i: &Instr, w: Width, r: &mut Regs) -> Result<Write, Stop>
 
 /// MOVZX from the width `v`.
 #[tactic(auto, unfolding(crate::specs::Moves::moved_zero))]
+#[inline]
 pub fn moved_zero(v: Width, i: &Instr, w: Width, r: &mut Regs, m: &Memory) -> Result<Write, Stop>
     ensures { Leaves result r.new (moved_zero v i.now w (machine r.old m.now)) }
 {
@@ -111,6 +115,7 @@ pub fn moved_zero(v: Width, i: &Instr, w: Width, r: &mut Regs, m: &Memory) -> Re
 
 /// MOVSX from the width `v`.
 #[tactic(auto, unfolding(crate::specs::Moves::moved_sign))]
+#[inline]
 pub fn moved_sign(v: Width, i: &Instr, w: Width, r: &mut Regs, m: &Memory) -> Result<Write, Stop>
     ensures { Leaves result r.new (moved_sign v i.now w (machine r.old m.now)) }
 {
@@ -157,6 +162,7 @@ pub fn converted_double(w: Width, r: &mut Regs) -> Result<Write, Stop>
 
 /// CMOVcc
 #[tactic(auto, unfolding(crate::specs::Moves::moved_if))]
+#[inline]
 pub fn moved_if(c: bool, i: &Instr, w: Width, r: &mut Regs, m: &Memory) -> Result<Write, Stop>
     ensures { Leaves result r.new (moved_if c i.now w (machine r.old m.now)) }
 {

@@ -12,6 +12,7 @@ use ia32_decode::Operand;
 use nd_base::Addr;
 use nd_mem::Memory;
 
+#[inline(always)]
 fn register_or_none(n: Option<u8>, r: &Regs) -> u32
     ensures { result ≡ register_or_none n r.now }
 {
@@ -23,6 +24,7 @@ fn register_or_none(n: Option<u8>, r: &Regs) -> u32
 
 /// The effective address: base, index times scale, and offset.
 #[tactic(auto, unfolding(crate::specs::Operands::address_of))]
+#[inline(always)]
 pub fn address_of(base: Option<u8>, index: Option<u8>, scale: u8, offset: u32, r: &Regs) -> u32
     ensures { result ≡ address_of base index scale offset r.now }
 {
@@ -33,6 +35,7 @@ pub fn address_of(base: Option<u8>, index: Option<u8>, scale: u8, offset: u32, r
 
 /// The number in memory.
 #[tactic(auto, unfolding(crate::specs::Operands::read))]
+#[inline(always)]
 pub fn read(w: Width, at: u32, m: &Memory) -> Result<u32, Stop>
     ensures value { result ≡ read w at m.now }
     ensures fits { IfOk result (λ n. n < size w) }
@@ -64,6 +67,7 @@ pub fn read(w: Width, at: u32, m: &Memory) -> Result<u32, Stop>
 
 /// An operand's number, where `imm` is the instruction's immediate.
 #[tactic(auto, unfolding(crate::specs::Operands::load))]
+#[inline(always)]
 pub fn load(w: Width, o: &Operand, imm: u32, r: &Regs, m: &Memory) -> Result<u32, Stop>
     ensures value { result ≡ load w o.now imm (machine r.now m.now) }
     ensures fits { IfOk result (λ n. n < size w) }

@@ -42,6 +42,7 @@ impl Regs {
 /// The number in the register that three bits name: AL, CL, DL, BL, AH, CH, DH, BH; AX to DI; EAX
 /// to EDI.
 #[tactic(auto, unfolding(crate::specs::Registers::part))]
+#[inline(always)]
 pub(crate) fn part(w: Width, n: u8, r: &Regs) -> u32
     ensures value { result ≡ part w n r.now }
     ensures fits { result < size w }
@@ -56,6 +57,7 @@ pub(crate) fn part(w: Width, n: u8, r: &Regs) -> u32
 
 /// One of the registers, or a part of it, becomes the number.
 #[tactic(auto, unfolding(crate::specs::Registers::with_part))]
+#[inline(always)]
 pub(crate) fn set_part(w: Width, n: u8, v: u32, r: &mut Regs)
     requires { v < size w }
     ensures { r.new ≡ with_part w n v r.old }

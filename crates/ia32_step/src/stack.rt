@@ -18,6 +18,7 @@ const AH: u8 = 4;
 
 /// A number goes onto the stack.
 #[tactic(auto, unfolding(crate::specs::Stack::push))]
+#[inline(always)]
 pub fn push(w: Width, v: u32, r: &mut Regs) -> Write
     requires { v < size w }
     ensures value { left r.new result ≡ push w v r.old }
@@ -30,6 +31,7 @@ pub fn push(w: Width, v: u32, r: &mut Regs) -> Write
 
 /// PUSH
 #[tactic(auto, unfolding(crate::specs::Stack::pushed))]
+#[inline]
 pub fn pushed(i: &Instr, w: Width, r: &mut Regs, m: &Memory) -> Result<Write, Stop>
     ensures { Leaves result r.new (pushed i.now w (machine r.old m.now)) }
 {
@@ -39,6 +41,7 @@ pub fn pushed(i: &Instr, w: Width, r: &mut Regs, m: &Memory) -> Result<Write, St
 
 /// POP
 #[tactic(auto, unfolding(crate::specs::Stack::popped))]
+#[inline]
 pub fn popped(i: &Instr, w: Width, r: &mut Regs, m: &Memory) -> Result<Write, Stop>
     ensures { Leaves result r.new (popped i.now w (machine r.old m.now)) }
 {

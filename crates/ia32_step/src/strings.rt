@@ -27,6 +27,7 @@ const ACCUMULATOR: u8 = 0;
 
 /// The address of the next element.
 #[tactic(auto, unfolding(crate::specs::Strings::next_of))]
+#[inline]
 fn next_of(w: Width, at: u32, f: Flags) -> u32
     ensures { result ≡ next_of w at f }
 {
@@ -39,6 +40,7 @@ fn next_of(w: Width, at: u32, f: Flags) -> u32
 
 /// MOVS
 #[tactic(auto, unfolding(crate::specs::Strings::copied))]
+#[inline]
 fn copied(w: Width, r: &mut Regs, m: &Memory) -> Result<Write, Stop>
     ensures { Leaves result r.new (copied w (machine r.old m.now)) }
 {
@@ -52,6 +54,7 @@ fn copied(w: Width, r: &mut Regs, m: &Memory) -> Result<Write, Stop>
 
 /// STOS
 #[tactic(auto, unfolding(crate::specs::Strings::filled))]
+#[inline]
 fn filled(w: Width, r: &mut Regs) -> Result<Write, Stop>
     ensures { Leaves result r.new (filled w r.old) }
 {
@@ -63,6 +66,7 @@ fn filled(w: Width, r: &mut Regs) -> Result<Write, Stop>
 
 /// LODS
 #[tactic(auto, unfolding(crate::specs::Strings::taken))]
+#[inline]
 fn taken(w: Width, r: &mut Regs, m: &Memory) -> Result<Write, Stop>
     ensures { Leaves result r.new (taken w (machine r.old m.now)) }
 {
@@ -75,6 +79,7 @@ fn taken(w: Width, r: &mut Regs, m: &Memory) -> Result<Write, Stop>
 
 /// SCAS
 #[tactic(auto, unfolding(crate::specs::Strings::scanned))]
+#[inline]
 fn scanned(w: Width, r: &mut Regs, m: &Memory) -> Result<Write, Stop>
     ensures { Leaves result r.new (scanned w (machine r.old m.now)) }
 {
@@ -88,6 +93,7 @@ fn scanned(w: Width, r: &mut Regs, m: &Memory) -> Result<Write, Stop>
 
 /// CMPS
 #[tactic(auto, unfolding(crate::specs::Strings::compared_strings))]
+#[inline]
 fn compared_strings(w: Width, r: &mut Regs, m: &Memory) -> Result<Write, Stop>
     ensures { Leaves result r.new (compared_strings w (machine r.old m.now)) }
 {
@@ -103,6 +109,7 @@ fn compared_strings(w: Width, r: &mut Regs, m: &Memory) -> Result<Write, Stop>
 
 /// One iteration.
 #[tactic(auto, unfolding(crate::specs::Strings::once))]
+#[inline]
 fn once(op: StringOp, w: Width, r: &mut Regs, m: &Memory) -> Result<Write, Stop>
     ensures { Leaves result r.new (once op w (machine r.old m.now)) }
 {
@@ -115,6 +122,7 @@ fn once(op: StringOp, w: Width, r: &mut Regs, m: &Memory) -> Result<Write, Stop>
     }
 }
 
+#[inline]
 fn while_equal(repeat: Repeat, zero: bool) -> bool
     ensures { result ≡ while_equal repeat zero }
 {
@@ -126,6 +134,7 @@ fn while_equal(repeat: Repeat, zero: bool) -> bool
 
 /// Whether the repeat goes on behind an iteration, as far as the flags say.
 #[tactic(auto, unfolding(crate::specs::Strings::goes_on))]
+#[inline]
 fn goes_on(op: StringOp, repeat: Repeat, zero: bool) -> bool
     ensures { result ≡ goes_on op repeat zero }
 {
@@ -137,6 +146,7 @@ fn goes_on(op: StringOp, repeat: Repeat, zero: bool) -> bool
 
 /// One iteration less is left. EIP stays at the instruction before the last.
 #[tactic(auto, unfolding(crate::specs::Strings::counted_down))]
+#[inline]
 fn count_down(start: u32, more: bool, r: &mut Regs)
     ensures { r.new ≡ counted_down start more r.old }
 {
@@ -149,6 +159,7 @@ fn count_down(start: u32, more: bool, r: &mut Regs)
 
 /// MOVS, STOS, LODS, SCAS, CMPS, where the instruction begins at start.
 #[tactic(auto, unfolding(crate::specs::Strings::string_done))]
+#[inline]
 pub fn string_done(
     op: StringOp,
     i: &Instr,

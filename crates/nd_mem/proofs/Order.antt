@@ -4,7 +4,7 @@ use Rattle.std.specs.List.{All, position, position_from}
 use Rattle.std.specs.List.Sorted.{IsNonDecreasingBy, IsPartitionPoint}
 use Rattle.std.proofs.lemmas.Bool.{cases_eq, cases_lt, false≢true}
 use Rattle.std.proofs.lemmas.Iterator.Adapters.{position_from-zero}
-use Rattle.std.proofs.lemmas.List.{length-take, get_or-take, length-drop, get_or-drop, length-replicate, get_or-replicate}
+use Rattle.std.proofs.lemmas.List.{get_or_read, length-take, get_or-take, length-drop, get_or-drop, length-replicate, get_or-replicate}
 use Rattle.std.proofs.lemmas.List.Elements.{All-append, All-cons, All-take, All-drop}
 use Rattle.nd_mem.specs.declared.Rights.{Rights}
 use Rattle.nd_mem.specs.declared.regions.Region.{Region}
@@ -23,6 +23,13 @@ firsts_rise regions laid_out i j d le inside =
 -- how many regions begin at an address or below it
 abbrev Begun : List Region → ℕ → ℕ → Type 0
 Begun regions a n = IsPartitionPoint (λ (region : Region). region.first.0 ≤ a) (λ (region : Region). a < region.first.0) regions n
+
+-- as many begin at an address or below it as the last that does so and the next one, which begins behind it, say
+pub begun_between : (regions : List Region) (a n : ℕ) (region : Region) → AreLaidOut regions → 0 < n → n ≤ length regions → region ≡ get_or regions (n - 1) region → region.first.0 ≤ a → ((d : Region) → n < length regions → a < (get_or regions n d).first.0) → Begun regions a n
+begun_between regions a n region laid_out some most is before behind = (
+  λ k d low less. omega (arith, firsts_rise regions laid_out k (n - 1) d (omega arith) (omega arith), ap (λ (r : Region). r.first.0) (get_or_read regions (n - 1) region (omega arith) is d)),
+  λ k d late inside. omega (arith, firsts_rise regions laid_out n k d late inside, behind d (omega arith)),
+)
 
 position_at : (regions : List Region) (a i base : ℕ) (d : Region) → i < length regions → holds (get_or regions i d) a ≡ true → ((k : ℕ) → k < i → holds (get_or regions k d) a ≡ false) → position_from (λ (region : Region). holds region a) base regions ≡ Some (i + base)
 position_at [] a i base d inside here before = absurd (omega arith)

@@ -55,8 +55,8 @@ pub enum RegionRefusal {
 #[derive(Drop)]
 pub struct Memory {
     regions: Vec<Region>,
-    /// The index of the region that was fetched from last, and of the one of the last other access.
-    /// Either is a guess, which is asked before it is taken.
+    /// How many regions begin at the address of the last fetch or below it, and of the last other
+    /// access. Either is a guess, which is tried before it is taken.
     fetched: Cell<usize>,
     accessed: Cell<usize>,
 }
@@ -154,6 +154,7 @@ impl Memory {
     }
 
     /// Reads the bytes from `at` on into `out`. Addresses go on from 0xFFFFFFFF at 0.
+    #[inline]
     pub fn read(&self, at: Addr, out: &mut [u8]) -> Result<(), MemFault>
         ensures answer { result ≡ answer_of tt (first_fault Reading (map.get self.now) at.0 (length out.old)) }
         ensures ok { OnOk result (out.new ≡ bytes_from (map.get self.now) at.0 (length out.old)) }
@@ -164,6 +165,7 @@ impl Memory {
     }
 
     /// Writes the bytes from `at` on, where each may be written.
+    #[inline]
     pub fn write(&mut self, at: Addr, bytes: &[u8]) -> Result<(), MemFault>
         ensures answer { result ≡ answer_of tt (first_fault Writing (map.get self.old) at.0 (length bytes.now)) }
         ensures ok { OnOk result (self.new ≡ put_from self.old at.0 bytes.now) }
@@ -185,6 +187,7 @@ impl Memory {
 
     /// Reads into the front of `out` the bytes from `at` on that can be executed, and answers how
     /// many they are, 1 to 15.
+    #[inline]
     pub fn fetch(&self, at: Addr, out: &mut [u8; 15]) -> Result<usize, MemFault>
         ensures answer { result ≡ answer_of (executable_run (map.get self.now) at.0 15) (fault_at Executing (map.get self.now) at.0) }
         ensures ok { IfOk result (λ n. take n out.new ≡ bytes_from (map.get self.now) at.0 n) }

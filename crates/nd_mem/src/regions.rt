@@ -1,7 +1,7 @@
 //! The regions that a memory is made of, and runs of bytes that go over several of them. A run
 //! is taken region by region, what comes behind first: so a fault there leaves all as it was.
 
-ghost use Rattle.std.specs.Prelude.{◌≡◌, ℕ, ◌+◌, ◌-◌, ◌≤◌, ◌<◌, ◌++◌, length, take, drop, replicate, true, false, IfOk, IfErr, OnOk, OnErr, Ok, Err, Some, None, is_some};
+ghost use Rattle.std.specs.Prelude.{slice_index_or, ◌≡◌, ℕ, ◌+◌, ◌-◌, ◌≤◌, ◌<◌, ◌++◌, length, take, drop, replicate, true, false, IfOk, IfErr, OnOk, OnErr, Ok, Err, Some, None, is_some};
 ghost use Rattle.std.specs.List.{position};
 ghost use Rattle.std.specs.List.Sorted.{IsPartitionPoint};
 ghost use Rattle.nd_mem.specs.Space.{first_fault, answer_of, allows, bytes_from, executable_run, fault_at, Executing, Reading};
@@ -23,6 +23,7 @@ pub enum Purpose {
 
 impl Purpose {
     /// The fault at a mapped address whose rights do not allow it.
+    #[inline(always)]
     fn check(self, rights: Rights, at: Addr) -> Result<(), MemFault>
         ensures { result ≡ allowed_or (access_of self) at (allows (access_of self) rights) }
     {
@@ -58,6 +59,7 @@ impl Region {
     }
 
     /// Whether an address is one of its own.
+    #[inline(always)]
     fn holds(&self, at: Addr) -> bool
         ensures { result ≡ holds self.now at.0 }
     {
@@ -81,6 +83,7 @@ impl Region {
     }
 
     /// Overwrites its bytes from `offset` on.
+    #[inline(always)]
     fn put(&mut self, offset: usize, bytes: &[u8])
         requires { offset + length bytes.now ≤ length self.old.bytes.items }
         ensures first { self.new.first ≡ self.old.first }
@@ -108,12 +111,45 @@ pub fn count_begun(regions: &[Region], at: Addr) -> usize
     regions.partition_point(|region| region.first.0 <= at.0)
 }
 
+/// Whether the region of an index, if there is one, begins behind an address.
+#[inline(always)]
+fn begins_behind(regions: &[Region], index: usize, at: Addr) -> bool
+    ensures { result ≡ true → (d : Region) → index < length regions.now → at.0 < (slice_index_or regions.now index d).first.0 }
+{
+    match regions.get(index) {
+        Some(region) => at.0 < region.first.0,
+        None => true,
+    }
+}
+
+/// How many regions begin at an address or below it. The number of the last time is tried first,
+/// and the number is kept for the next time.
+#[inline]
+fn count_again(regions: &[Region], last: &Cell<usize>, at: Addr) -> usize
+    requires { AreLaidOut regions.now }
+    ensures begun { IsPartitionPoint (λ region. region.first.0 ≤ at.0) (λ region. at.0 < region.first.0) regions.now result }
+    ensures most { result ≤ length regions.now }
+{
+    let guess = last.get();
+    if guess > 0
+        && guess <= regions.len()
+        && regions[guess - 1].first.0 <= at.0
+        && begins_behind(regions, guess, at)
+    {
+        return guess;
+    }
+    let count = count_begun(regions, at);
+    last.set(count);
+    count
+}
+
 /// The index of the region that holds an address: it is the last that begins there or below.
-fn last_begun(regions: &[Region], at: Addr) -> Option<usize>
+#[inline(always)]
+fn holder_of(regions: &[Region], last: &Cell<usize>, at: Addr) -> Option<usize>
     requires { AreLaidOut regions.now }
     ensures { result ≡ position (λ region. holds region at.0) regions.now }
 {
-    let begun = count_begun(regions, at);
+    let begun = count_again(regions, last, at);
     if begun > 0 && regions[begun - 1].holds(at) {
         Some(begun - 1)
     } else {
@@ -121,24 +157,8 @@ fn last_begun(regions: &[Region], at: Addr) -> Option<usize>
     }
 }
 
-/// The index of the region that holds an address. The one that was found last is asked first, and
-/// whichever is found is kept for the next time.
-fn holder_of(regions: &[Region], last: &Cell<usize>, at: Addr) -> Option<usize>
-    requires { AreLaidOut regions.now }
-    ensures { result ≡ position (λ region. holds region at.0) regions.now }
-{
-    let index = last.get();
-    if index < regions.len() && regions[index].holds(at) {
-        return Some(index);
-    }
-    let found = last_begun(regions, at);
-    if let Some(index) = found {
-        last.set(index);
-    }
-    found
-}
-
 /// Where an address stands, if the access may have its byte.
+#[inline(always)]
 fn spot_of(
     regions: &[Region],
     last: &Cell<usize>,
@@ -161,6 +181,7 @@ fn spot_of(
 }
 
 /// The bytes from an address on up to the end of its region.
+#[inline(always)]
 pub fn run_from<'a>(
     regions: &'a [Region],
     last: &Cell<usize>,
@@ -191,10 +212,14 @@ pub fn read_runs(
         return Ok(());
     }
     let run = run_from(regions, last, Purpose::Read, at)?;
-    let count = run.len().min(out.len());
+    if out.len() <= run.len() {
+        out.copy_from_slice(&run[..out.len()]);
+        return Ok(());
+    }
+    let count = run.len();
     let (here, rest) = out.split_at_mut(count);
     read_runs(regions, last, Addr(at.0 + count as u32), rest)?;
-    here.copy_from_slice(&run[..count]);
+    here.copy_from_slice(run);
     Ok(())
 }
 

@@ -46,3 +46,8 @@ turn_from_armed kept xs value m t view turns armed =
     turns.same m t
     ∙ is_for_from (tree.get nat_cmp kept t) m
     (ap (option_map (λ (timer : Timer). timer.moment)) (sym (get-kept kept t)) ∙ subst (λ (v : Timers). IsArmedFor v t m) (sym view) armed)
+
+-- the turns are those of the finite map too
+pub turns_of_map : (kept : BTreeMap ℕ Timer) (xs : List Turn) (value : Timers) → timers_in kept ≡ value → AreTurnsOf (tree.get nat_cmp kept) xs → AreTurnsOf (get value) xs
+turns_of_map kept xs value view turns =
+    subst (λ (v : Timers). AreTurnsOf (get v) xs) view (record { order = turns.order; same = λ m t. turns.same m t ∙ ap (λ o. is_for o m) (sym (get-kept kept t)) })

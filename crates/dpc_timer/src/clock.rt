@@ -1,12 +1,15 @@
 //! The clock.
 
 ghost use Rattle.std.specs.Prelude.{◌≡◌, ◌+◌, ◌<◌, ◌^◌, true, is_some, OnOk, OnErr, IfSome, IfNone};
+ghost use Rattle.std.specs.FinMap as table;
+ghost use Rattle.dpc_timer.specs.Turns.{AreTurnsOf};
 ghost use Rattle.dpc_timer.specs.ClockState.{start, timer_at, armed_for, IsDue, IsFirstDue, NoneDue, IsNextMoment, NoneLater, is_queued, moved, Rise, Queue, Unqueue, Arm, Cancel, Fire};
 
-use crate::timer::Timer;
+use crate::timer::{Timer, Turn};
 use crate::timer_queue::TimerQueue;
 use nd_base::{AdapterNo, Addr, OutOfMemory};
 use std::alloc::Global;
+use std::collections::VecDeque;
 use std::marker::Model;
 
 /// How many numbers of adapters there are.
@@ -115,6 +118,13 @@ impl Clock {
         ensures none { IfNone result (NoneLater self.now) }
     {
         self.timers.first_above(self.time)
+    }
+
+    /// The turns of the armed timers: each with its moment and the timer's address, in rising order.
+    pub fn turns(&self) -> &VecDeque<Turn>
+        ensures { AreTurnsOf (table.get self.now.timers) result.now.items }
+    {
+        self.timers.turns()
     }
 
     /// Takes a timer that is due.

@@ -10,3 +10,4 @@ mod turns;
 
 pub use clock::Clock;
 pub use clock_laws::{time_laws, timer_laws};
+pub use timer::Turn;

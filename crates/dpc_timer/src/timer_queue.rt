@@ -3,6 +3,7 @@
 ghost use Rattle.std.specs.Prelude.{◌≡◌, ◌≤◌, ◌<◌, ◌⊎◌, ℕ, None, IsSome, is_some, OnOk, OnErr, IfSome, IfNone};
 ghost use Rattle.std.specs.FinMap as table;
 ghost use Rattle.dpc_timer.specs.ClockState.{IsArmedFor};
+ghost use Rattle.dpc_timer.specs.Turns.{AreTurnsOf};
 
 use crate::timer::{Timer, Turn};
 use crate::turns::{first_above, first_turn, put_turn, take_turn};
@@ -111,6 +112,13 @@ impl TimerQueue {
         ensures none { IfNone result ((t moment : ℕ) → IsArmedFor self.now t moment → ⊥) }
     {
         first_turn(&self.turns)
+    }
+
+    /// The turns of the armed timers.
+    pub fn turns(&self) -> &VecDeque<Turn>
+        ensures { AreTurnsOf (table.get self.now) result.now.items }
+    {
+        &self.turns
     }
 
     /// The earliest moment above this one for which a timer is armed.

@@ -2,6 +2,7 @@
 
 ghost use Rattle.std.specs.Prelude.{◌≡◌, OnOk, OnErr};
 ghost use Rattle.std.specs.FinMap as table;
+ghost use Rattle.guest_world.specs.Timers.{timers_in};
 
 use crate::miniport::TimerFunction;
 use nd_base::{Addr, OutOfMemory};
@@ -40,6 +41,13 @@ impl TimerFunctions {
         ensures { result ≡ table.get self.now timer.0 }
     {
         self.given.get(&timer.0).copied()
+    }
+
+    /// What was given of each timer, by its address as a number.
+    pub fn as_map(&self) -> &BTreeMap<u32, TimerFunction>
+        ensures { timers_in result.now ≡ self.now }
+    {
+        &self.given
     }
 
     /// Gives a timer its function, also one that has one.

@@ -1,6 +1,6 @@
 //! Levels and locks of all contexts.
 
-ghost use Rattle.std.specs.Prelude.{◌≡◌, ◌≢◌, ◌<◌, ℕ, None, Some, IsSome, Ok, IfOk, slice_index_or, slice_set};
+ghost use Rattle.std.specs.Prelude.{◌≡◌, ◌≢◌, ◌<◌, ℕ, None, Some, IsSome, Ok, IfOk, is_ok, slice_index_or, slice_set};
 ghost use Rattle.std.specs.List.{list_any};
 ghost use Rattle.nd_base.specs.declared.numbers.CtxNo.{CtxNo};
 ghost use Rattle.irql_lock.specs.LockState.{contexts, nothing, context_of, IsOpen, level_of, holder_of, is_busy, spins_in};
@@ -117,14 +117,23 @@ impl Levels {
         self.contexts[usize::from(c.0)] = Some(context);
     }
 
+    /// Whether the handler of a context may leave: it is at the level that it began at, and holds no
+    /// lock.
+    pub fn may_leave(&self, c: CtxNo) -> bool
+        requires { IsOpen self.now c }
+        ensures { result ≡ is_ok (moved self.now (Leave c)) }
+    {
+        let context = open_context(&self.contexts, c);
+        context.level == context.began && !self.locks.holds_any(c)
+    }
+
     /// Closes a context whose handler leaves.
     pub fn leave(&mut self, c: CtxNo) -> Result<(), Breach>
         requires { IsOpen self.old c }
         ensures moved { Moves self.old (Leave c) result self.new }
         ensures others { (d : CtxNo) → d.0 ≢ c.0 → context_of self.new d ≡ context_of self.old d }
     {
-        let context = open_context(&self.contexts, c);
-        if context.level != context.began || self.locks.holds_any(c) {
+        if !self.may_leave(c) {
             return Err(LEAVE_RULE);
         }
         set_context(&mut self.contexts, c, None);

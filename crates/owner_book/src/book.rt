@@ -1,10 +1,11 @@
 //! The book of owners.
 
-ghost use Rattle.std.specs.Prelude.{◌≡◌, ◌<◌, ◌+◌, ◌^◌, ℕ, true, IfOk, OnOk, OnErr, length, slice_get, max, option_copied};
+ghost use Rattle.std.specs.Prelude.{◌≡◌, ◌<◌, ◌+◌, ◌^◌, ◌&&◌, ℕ, true, IfOk, OnOk, OnErr, length, slice_get, max, option_copied};
 ghost use Rattle.std.specs.Option.{option_map};
 ghost use Rattle.log_fields.specs.Fields.{HasRule};
-ghost use Rattle.owner_machine.specs.State.{stands};
-ghost use Rattle.owner_machine.specs.Handlers.{outstanding};
+ghost use Rattle.owner_machine.specs.State.{stands, implies};
+ghost use Rattle.owner_machine.specs.Contexts.{in_brackets, is_dpc, is_halt, none_runs};
+ghost use Rattle.owner_machine.specs.Handlers.{may_halt, outstanding};
 ghost use Rattle.owner_machine.specs.Legal.{start, with_handlers, said_nothing};
 ghost use Rattle.owner_book.specs.Admitting.{Admits};
 ghost use Rattle.owner_book.specs.Standings.{IsStanding, told_of_bound, first_cancel, first_event};
@@ -15,10 +16,10 @@ use crate::moves::take;
 use crate::standing::{Standing, standing_of};
 use crate::starting::{new_adapters, new_drivers, new_ledger};
 use crate::stopping::{end_all, stop_room};
-use call_log::{Cause, Entry, Log};
-use nd_base::{AdapterNo, BindingNo, Breach, OutOfMemory};
-use owner_machine::{Binding, Next};
-use owner_rules::Ledger;
+use call_log::{Cause, Entry, Handler, Log};
+use nd_base::{AdapterNo, BindingNo, Breach, CtxNo, OutOfMemory};
+use owner_machine::{Binding, Context, Next};
+use owner_rules::{Group, Ledger};
 use std::alloc::Global;
 use std::marker::Model;
 
@@ -105,6 +106,28 @@ impl Book {
         ensures { result ≡ stands self.now a.0 }
     {
         self.ledger.stands(a.0)
+    }
+
+    /// What a context runs and calls.
+    pub fn context(&self, x: CtxNo) -> Option<Context>
+        ensures { result ≡ slice_get self.now.contexts x.0 }
+    {
+        self.ledger.contexts.get(usize::from(x.0)).copied()
+    }
+
+    /// Whether a handler may be open beside those that are; and, of MiniportHalt and MiniportShutdown,
+    /// whether the adapter may end.
+    pub fn may_be_open(&self, a: AdapterNo, h: Handler) -> bool
+        ensures { result ≡ (in_brackets self.now a.0 h && implies (is_halt h) (may_halt self.now a.0)) }
+    {
+        self.ledger.may_be_open(a.0, h)
+    }
+
+    /// Whether no MiniportHandleInterrupt of an adapter is open.
+    pub fn no_dpc_is_open(&self, a: AdapterNo) -> bool
+        ensures { result ≡ none_runs self.now is_dpc a.0 }
+    {
+        self.ledger.none_runs(Group::Dpc, a.0)
     }
 
     /// How many packets, loans and requests of an adapter are outstanding.

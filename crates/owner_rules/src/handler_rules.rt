@@ -2,8 +2,9 @@
 //!
 //! (DDK: MiniportHalt, MiniportShutdown.)
 
-ghost use Rattle.std.specs.Prelude.{◌≡◌, ◌≤◌, ◌*◌, ◌==◌, count_by, Some};
-ghost use Rattle.owner_machine.specs.State.{at};
+ghost use Rattle.std.specs.Prelude.{◌≡◌, ◌≤◌, ◌*◌, ◌==◌, ◌&&◌, count_by, Some};
+ghost use Rattle.owner_machine.specs.State.{at, implies};
+ghost use Rattle.owner_machine.specs.Contexts.{in_brackets, is_halt};
 ghost use Rattle.owner_machine.specs.Handlers.{outstanding, stays_bound, nothing_waits, may_halt, may_enter};
 ghost use Rattle.owner_rows.specs.Kept.{most_rows};
 ghost use Rattle.owner_rules.specs.State.{owner_of};
@@ -62,14 +63,23 @@ impl Ledger {
         running && (unbound && (ended && (heard && idle)))
     }
 
+    /// Whether a handler may be open beside those that are; and, of MiniportHalt and MiniportShutdown,
+    /// whether the adapter may end.
+    pub fn may_be_open(&self, a: u8, h: Handler) -> bool
+        ensures { result ≡ (in_brackets (owner_of self.now) a h && implies (is_halt h) (may_halt (owner_of self.now) a)) }
+    {
+        let fits = self.in_brackets(a, h);
+        let ends = implies(is_halt(h), self.may_halt(a));
+        fits && ends
+    }
+
     fn may_enter_adapter(&self, a: u8, c: u8, h: Handler) -> bool
         ensures { result ≡ may_enter (owner_of self.now) (Some (record { 0 = a })) c h }
     {
         let free = self.is_context_free(c);
         let stands = self.stands(a);
-        let fits = self.in_brackets(a, h);
-        let ends = implies(is_halt(h), self.may_halt(a));
-        free && (!is_entry(h) && (stands && (fits && ends)))
+        let fits = self.may_be_open(a, h);
+        free && (!is_entry(h) && (stands && fits))
     }
 
     pub(crate) fn may_enter(&self, adapter: Option<AdapterNo>, c: u8, h: Handler) -> bool

@@ -35,7 +35,7 @@ use Rattle.owner_machine.specs.Machine.{rule_against, has_case, last_rule, rule_
 use Rattle.legal_run.specs.State.{Inputs, State, alive}
 use Rattle.legal_run.specs.Owed.{to_hand, request_at, hands_set, owed_row, running}
 use Rattle.legal_run.specs.After.{after}
-use Rattle.legal_run.specs.Must.{Owes, must, is_carried}
+use Rattle.legal_run.specs.Must.{Due as RunDue, Owes, Serves, must, is_carried}
 use Rattle.legal_run.specs.EntryLaws.{IsPlain, GoesOn, IsCalledFor, is_ask}
 use Rattle.legal_run.proofs.Between.{true_both}
 use Rattle.legal_run.proofs.Named.{owed_by_owner}
@@ -300,11 +300,15 @@ by_next o (nexts.Resetting adapter) d is next due plain = let same : EntersReset
 by_next o nexts.Free d is next due plain = absurd (cc)
 by_next o (nexts.Left adapter handler enter from) d is next due plain = absurd (cc)
 
+-- what serves the duty, where the owner machine has a case for it
+pub goes_by : (c : Inputs) (s : State) (due : RunDue) (e : Entry) → must s ≡ Some due → Serves c s due e → rule_against s.owner e ≡ None → GoesOn c s
+goes_by c s due e is serves case = record { entry = e; meets = due_meets c s due e is serves case; asked = record { due = due; must = is; serves = serves } }
+
 pub duties : (c : Inputs) (s : State) (d : Due) → must s ≡ Some (Owes d) → IsPlain d → GoesOn c s
 duties c s d is plain =
     let owed = owed_by_owner s d is in
     let served = by_next s.owner s.owner.next d owed refl owed plain in
-    record { entry = served.entry; meets = due_meets c s (Owes d) served.entry is (rw served.serves (served.carried c s)) served.case }
+    goes_by c s (Owes d) served.entry is (rw served.serves (served.carried c s)) served.case
 
 -- ---- a question is handed behind the enter of its handler
 
@@ -384,5 +388,5 @@ asks_go_on c log a x h words writes ask run =
     let served = ask_served t.owner a.0 s.owner.enters finds.r (next_ask c s a x h words writes ask) finds.first finds.none in
     let is : must t ≡ Some (Owes (HandsAsk finds.r)) =
     must_ask c s a x h words writes ask ∙ ap (λ m. option_or (option_map Owes (option_map (λ r. HandsAsk r) m)) None) finds.first in
-    let goes : GoesOn c t = record { entry = served.entry; meets = due_meets c t (Owes (HandsAsk finds.r)) served.entry is (rw served.serves (served.carried c t)) served.case } in
+    let goes : GoesOn c t = goes_by c t (Owes (HandsAsk finds.r)) served.entry is (rw served.serves (served.carried c t)) served.case in
     subst (GoesOn c) (sym (next c log e)) goes

@@ -4,6 +4,7 @@ pub mod Carried
 pub mod Causes
 pub mod Charges
 pub mod Clocks
+pub mod Drawing
 pub mod Duties
 pub mod Follows
 pub mod Forced

@@ -27,9 +27,9 @@ use Rattle.legal_run.specs.Must.{Due, Owes, Exactly, ReplyOf, next_must, taken_f
 use Rattle.legal_run.specs.Run.{Run, now, freely}
 use Rattle.legal_run.specs.EntryLaws.{GoesOn}
 use Rattle.legal_run.proofs.Between.{true_both, forced_now}
-use Rattle.legal_run.proofs.Duties.{taken}
+use Rattle.legal_run.proofs.Duties.{taken, goes_by}
 use Rattle.legal_run.proofs.Named.{OfCall, OfSpin, OfStop, NamedIn, must_named, met}
-use Rattle.legal_run.proofs.Runs.{due_meets, next}
+use Rattle.legal_run.proofs.Runs.{next}
 
 -- ---- what is the same as itself
 
@@ -164,7 +164,7 @@ resets_go_on c log a run =
     let carry : is_carried c t f ≡ true = carried c t a.0 x some.passes frames in
     let case : has_case t.owner f ≡ true = rw (free_row s.owner.contexts x some.passes) (rw stand (rw (brackets c s a ∙ in_place.0) refl)) in
     let is = must_reset c s a in
-    let goes : GoesOn c t = record { entry = f; meets = due_meets c t (Owes (EntersReset a.0)) f is (rw served carry) (taken t.owner (EntersReset a.0) f refl served case refl) } in
+    let goes : GoesOn c t = goes_by c t (Owes (EntersReset a.0)) f is (rw served carry) (taken t.owner (EntersReset a.0) f refl served case refl) in
     subst (GoesOn c) (sym (next c log e)) goes
   where
     not_true : (b : Bool) → not b ≡ true → b ≡ false

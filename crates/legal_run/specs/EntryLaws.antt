@@ -181,10 +181,11 @@ IsPlain (HandsAsk r) = ⊥
 IsPlain (EntersReset a) = ⊥
 IsPlain _ = ⊤
 
--- a run goes on from there
+-- a run goes on from there: by an entry that may stand, and that serves what must
 pub record GoesOn (c : Inputs) (s : State) : Type 0 where
   pub entry : Entry
   pub meets : Meets c s entry
+  pub asked : IsAsked c s entry
 
 -- the handlers of a query and of a set
 abbrev pub is_ask : Handler → Bool

@@ -10,3 +10,4 @@ pub mod Owed
 pub mod Replies
 pub mod Run
 pub mod State
+pub mod VerdictLaws

@@ -1,6 +1,7 @@
 //! Laws of single entries of a run: each is the contract of a function that does nothing.
 
 ghost use Rattle.legal_run.specs.EntryLaws.{CauseLaws, CodeLaws, DutyLaws, EntryLaws};
+ghost use Rattle.legal_run.specs.VerdictLaws.{VerdictLaws};
 
 /// The clock jumps, and a driver hears that it waits in vain, only where nothing can happen by itself; a
 /// turn is as long as it must be; a handler is entered with its words and writes; a reply is the answer
@@ -23,4 +24,10 @@ pub fn code_laws()
 /// refusal, where a question is to be handed, or where a reset is to be entered.
 pub fn duties_are_served()
     ensures { DutyLaws }
+{}
+
+/// A handler is about the packets or the request that its enter hands, and behind its leave stand its
+/// verdicts on them, or on its reset.
+pub fn verdict_laws()
+    ensures { VerdictLaws }
 {}

@@ -9,7 +9,7 @@
 mod kinds;
 mod laws;
 
-pub use kinds::{cause_laws, code_laws, duties_are_served, entry_laws};
+pub use kinds::{cause_laws, code_laws, duties_are_served, entry_laws, verdict_laws};
 pub use laws::{
     calls_keep, charges_are_sums, clock_laws, nothing_stands_between, replies_are_taken, run_laws,
     runs_are_legal,

@@ -8,5 +8,10 @@ pub mod Replied
 pub mod Stops
 pub mod Made
 pub mod Ends
-pub mod Asks
+pub mod Opened
+pub mod Entered
+pub mod Winding
 pub mod Handed
+pub mod Sends
+pub mod Verdicts
+pub mod Served

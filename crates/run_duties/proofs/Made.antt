@@ -106,11 +106,11 @@ called o x a import words is =
 
 -- ---- numbers of rows that pass
 
-abbrev AllOf : (ℕ → Type 0) → List ℕ → Type 0
+abbrev pub AllOf : (ℕ → Type 0) → List ℕ → Type 0
 AllOf Q [] = ⊤
 AllOf Q (x ∷ xs) = Q x × AllOf Q xs
 
-numbers_pass : {A : Type 0} (n : ℕ) (test : A → Bool) (rows : List A) (Q : ℕ → Type 0) → ((i : ℕ) → at test rows i ≡ true → Q (n + i)) → AllOf Q (numbers_from n test rows)
+pub numbers_pass : {A : Type 0} (n : ℕ) (test : A → Bool) (rows : List A) (Q : ℕ → Type 0) → ((i : ℕ) → at test rows i ≡ true → Q (n + i)) → AllOf Q (numbers_from n test rows)
 numbers_pass n test [] Q w = tt
 numbers_pass n test (row ∷ rows) Q w =
     let next : (i : ℕ) → n + suc i ≡ suc n + i = λ i. omega arith in
@@ -121,7 +121,7 @@ numbers_pass n test (row ∷ rows) Q w =
     by_test true is here more = (here is, more)
     by_test false is here more = more
 
-filter_all : (Q : ℕ → Type 0) (p : ℕ → Bool) (xs : List ℕ) → AllOf Q xs → AllOf Q (filter p xs)
+pub filter_all : (Q : ℕ → Type 0) (p : ℕ → Bool) (xs : List ℕ) → AllOf Q xs → AllOf Q (filter p xs)
 filter_all Q p [] h = tt
 filter_all Q p (x ∷ xs) h = by_test (p x) (filter_all Q p xs h.1)
   where
@@ -129,7 +129,7 @@ filter_all Q p (x ∷ xs) h = by_test (p x) (filter_all Q p xs h.1)
     by_test true more = (h.0, more)
     by_test false more = more
 
-first_all : (Q : ℕ → Type 0) (xs : List ℕ) (k : ℕ) → AllOf Q xs → first xs ≡ Some k → Q k
+pub first_all : (Q : ℕ → Type 0) (xs : List ℕ) (k : ℕ) → AllOf Q xs → first xs ≡ Some k → Q k
 first_all Q [] k h is = absurd (cc)
 first_all Q (x ∷ xs) k h is = let same : x ≡ k = cc in subst Q same h.0
 

@@ -28,7 +28,7 @@ use Rattle.legal_run.specs.Run.{Run, Meets, now}
 use Rattle.legal_run.specs.EntryLaws.{GoesOn}
 use Rattle.run_duties.proofs.Calls.{Calls, Sixteen, NextCalls, HasCall, is_fresh, is_now, at_more, begun, step}
 use Rattle.run_duties.proofs.Room.{FirstFree, RoomIn, outcome_room}
-use Rattle.run_duties.proofs.Rows.{kept_from, due_meets}
+use Rattle.run_duties.proofs.Rows.{kept_from, due_meets, goes_by, in_turn}
 use Rattle.run_duties.proofs.Listed.{IsListed, listed_now}
 use Rattle.run_duties.proofs.Ones.{served_alone}
 
@@ -96,14 +96,17 @@ fresh_calls (kept.Open a h enter (Some call)) is = refl
 fresh_calls (kept.Open a h enter None) is = absurd (cc)
 fresh_calls kept.Free is = absurd (cc)
 
-pub spin_goes_on : Sixteen → (c : Inputs) (log : List Entry) (x : CtxNo) (lock : Addr) → Run c log → must (now c log) ≡ Some (Exactly (entries.Spin x lock)) → GoesOn c (now c log)
-spin_goes_on sixteen c log x lock run is =
+pub spin_stands : Sixteen → (c : Inputs) (log : List Entry) (x : CtxNo) (lock : Addr) → Run c log → must (now c log) ≡ Some (Exactly (entries.Spin x lock)) → Meets c (now c log) (entries.Spin x lock)
+spin_stands sixteen c log x lock run is =
     let s : State = now c log in
     let due = spinning s x lock (listed_now c log run) is in
     let fresh : at is_fresh s.owner.contexts x.0 ≡ true = subst (NextCalls s) due.next (calls_now sixteen c log run).next in
     let calls : at is_calling s.owner.contexts x.0 ≡ true = at_more is_fresh is_calling s.owner.contexts x.0 fresh_calls fresh in
     let case : rule_against s.owner (entries.Spin x lock) ≡ None = rw (served_alone s.owner (entries.Spin x lock) due.nothing) (rw calls refl) in
-    record { entry = entries.Spin x lock; meets = due_meets c s (Exactly (entries.Spin x lock)) (entries.Spin x lock) is refl case }
+    due_meets c s (Exactly (entries.Spin x lock)) (entries.Spin x lock) is refl case
+
+pub spin_goes_on : Sixteen → (c : Inputs) (log : List Entry) (x : CtxNo) (lock : Addr) → Run c log → must (now c log) ≡ Some (Exactly (entries.Spin x lock)) → GoesOn c (now c log)
+spin_goes_on sixteen c log x lock run is = goes_by c (now c log) (Exactly (entries.Spin x lock)) (entries.Spin x lock) is refl (spin_stands sixteen c log x lock run is)
 
 -- ---- replies
 
@@ -167,4 +170,6 @@ reply_goes_on sixteen taken first_is_free c log x run is =
     let has = has_call sixteen c log x run is in
     let room = outcome_room first_is_free s.world (caller s x) (row_of has.call.import) has.call.words in
     let answer = answer_in s.world (outcome_of s x has.call.import has.call.words) room has.answers in
-    record { entry = entries.Reply x answer.reply.eax (answer.reply.writes ++ has.call.writes); meets = given_stands sixteen taken c log x has.call answer.reply answer.world run is has.called answer.comes }
+    let e : Entry = entries.Reply x answer.reply.eax (answer.reply.writes ++ has.call.writes) in
+    let meets : Meets c s e = given_stands sixteen taken c log x has.call answer.reply answer.world run is has.called answer.comes in
+    goes_by c s (ReplyOf x) e is (in_turn c s (ReplyOf x) e is refl meets) meets

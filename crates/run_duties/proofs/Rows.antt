@@ -1,5 +1,5 @@
 -- Rows, tests that hold, and how a run goes on.
-use Rattle.std.proofs.Common.{◌≡◌, ℕ, zero, suc, ◌+◌, Bool, true, false, cond, ◌&&◌, ◌==◌, List, [], ◌∷◌, ◌++◌, Option, Some, None, refl, sym, ap, ◌∙◌, subst, inl, arith}
+use Rattle.std.proofs.Common.{◌≡◌, ℕ, zero, suc, ◌+◌, Bool, true, false, cond, ◌&&◌, ◌==◌, List, [], ◌∷◌, ◌++◌, Option, Some, None, refl, sym, ap, ◌∙◌, subst, inl, inr, slice_get, arith}
 use Rattle.std.specs.Prelude.{count_by}
 use Rattle.std.specs.List.{position}
 use Rattle.std.specs.Option.{MatchOption, option_map_or}
@@ -14,7 +14,8 @@ use Rattle.owner_machine.specs.Must.{is_served}
 use Rattle.legal_run.specs.State.{Inputs, State, start}
 use Rattle.legal_run.specs.After.{after}
 use Rattle.legal_run.specs.Must.{Due, must, Serves}
-use Rattle.legal_run.specs.Run.{RunFrom, now_from, now, Meets, freely}
+use Rattle.legal_run.specs.EntryLaws.{GoesOn}
+use Rattle.legal_run.specs.Run.{RunFrom, now_from, now, Meets, freely, breaks_in}
 
 -- ---- tests
 
@@ -58,6 +59,22 @@ pub position_passes : {A : Type 0} (test : A → Bool) (rows : List A) (k : ℕ)
 position_passes test [] k found = absurd (cc)
 position_passes test (x ∷ xs) k found = let h = position-Some test (x ∷ xs) k x found in ap (λ o. option_map_or test o false) (slice_get-get_or (x ∷ xs) k x h.0) ∙ h.1
 
+-- the row that passes
+pub record IsRow {A : Type 0} (test : A → Bool) (rows : List A) (k : ℕ) : Type 0 where
+  pub row : A
+  pub there : slice_get rows k ≡ Some row
+  pub passes : test row ≡ true
+
+pub row_at : {A : Type 0} (test : A → Bool) (rows : List A) (k : ℕ) → at test rows k ≡ true → IsRow test rows k
+row_at {A} test rows k h = by_row (slice_get rows k) refl h
+  where
+    by_row : (m : Option A) → slice_get rows k ≡ m → option_map_or test m false ≡ true → IsRow test rows k
+    by_row None is h = absurd (cc)
+    by_row (Some row) is h = record { row = row; there = is; passes = h }
+
+pub at_row : {A : Type 0} (test : A → Bool) (rows : List A) (k : ℕ) (row : A) → slice_get rows k ≡ Some row → at test rows k ≡ test row
+at_row test rows k row is = ap (λ m. option_map_or test m false) is
+
 -- ---- runs
 
 -- what holds at the start, and behind each entry that may stand where it holds, holds of every state of a run
@@ -66,6 +83,11 @@ pub kept_from : (c : Inputs) (P : State → Type 0) → ((s : State) (e : Entry)
 unfolding RunFrom now_from
 kept_from c P step s [] p run = p
 kept_from c P step s (e ∷ log) p run = kept_from c P step (after c s e) log (step s e p run.0) run.1
+
+pub run_parts : (c : Inputs) (s : State) (log : List Entry) (e : Entry) → RunFrom c s (log ++ e ∷ []) → RunFrom c s log × Meets c (now_from c s log) e
+unfolding RunFrom now_from
+run_parts c s [] e run = (tt, run.0)
+run_parts c s (f ∷ log) e run = let more = run_parts c (after c s f) log e run.1 in ((run.0, more.0), more.1)
 
 now_more : (c : Inputs) (s : State) (log : List Entry) (e : Entry) → now_from c s (log ++ e ∷ []) ≡ after c (now_from c s log) e
 unfolding now_from
@@ -80,3 +102,14 @@ due_meets c s due e is serves owner = record {
   owner = owner;
   turn = inl (subst (λ (d : Option Due). MatchOption d (freely c s e ≡ true) (λ x. Serves c s x e)) (sym is) serves);
 }
+
+-- and what serves what must stand is how a run goes on
+pub goes_by : (c : Inputs) (s : State) (due : Due) (e : Entry) → must s ≡ Some due → Serves c s due e → Meets c s e → GoesOn c s
+goes_by c s due e is serves meets = record { entry = e; meets = meets; asked = record { due = due; must = is; serves = serves } }
+
+-- what stands there in its turn serves it
+pub in_turn : (c : Inputs) (s : State) (due : Due) (e : Entry) → must s ≡ Some due → breaks_in c s e ≡ false → Meets c s e → Serves c s due e
+in_turn c s due e is other meets = elim meets.turn [
+  | inl h ↦ subst (λ (d : Option Due). MatchOption d (freely c s e ≡ true) (λ x. Serves c s x e)) is h
+  | inr h ↦ absurd (cc)
+]

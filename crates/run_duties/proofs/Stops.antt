@@ -24,7 +24,7 @@ use Rattle.legal_run.specs.Must.{Due, Owes, Exactly, ReplyOf, next_must, taken_f
 use Rattle.legal_run.specs.Run.{now, Run, Meets, freely, breaks_in}
 use Rattle.legal_run.specs.EntryLaws.{GoesOn}
 use Rattle.run_duties.proofs.Standing.{standing, is_stop, fit_at}
-use Rattle.run_duties.proofs.Rows.{true_both, other_row, due_meets, kept_from}
+use Rattle.run_duties.proofs.Rows.{true_both, other_row, due_meets, goes_by, kept_from}
 use Rattle.run_duties.proofs.Ones.{StandOnes, ones_after, ones_start, run_stays, served_alone}
 use Rattle.run_duties.proofs.Listed.{IsListed, next_listed, stopping}
 
@@ -238,13 +238,16 @@ standing_now c log run = kept_from c (Standing c) (step c) (start c) log (record
 stop_unruled : (o : Owner) (a : AdapterNo) (why : Cause) → owner_must o ≡ None → stands o a.0 ≡ true → rule_against o (entries.Stop a why) ≡ None
 stop_unruled o a why none is = rw (served_alone o (entries.Stop a why) none) (rw is refl)
 
-pub stop_goes_on : (c : Inputs) (log : List Entry) (a : AdapterNo) (why : Cause) → Run c log → must (now c log) ≡ Some (Exactly (entries.Stop a why)) → GoesOn c (now c log)
-stop_goes_on c log a why run is =
+pub stop_stands : (c : Inputs) (log : List Entry) (a : AdapterNo) (why : Cause) → Run c log → must (now c log) ≡ Some (Exactly (entries.Stop a why)) → Meets c (now c log) (entries.Stop a why)
+stop_stands c log a why run is =
     let s : State = now c log in
     let h = standing_now c log run in
     let stop = stopping s a why h.listed is in
     let all : StopsFrom s.owner.adapters 0 (a.0 ∷ stop.ats) = subst (NextStands s.owner.adapters) stop.next h.next in
-    record { entry = entries.Stop a why; meets = due_meets c s (Exactly (entries.Stop a why)) (entries.Stop a why) is refl (stop_unruled s.owner a why stop.nothing all.1) }
+    due_meets c s (Exactly (entries.Stop a why)) (entries.Stop a why) is refl (stop_unruled s.owner a why stop.nothing all.1)
+
+pub stop_goes_on : (c : Inputs) (log : List Entry) (a : AdapterNo) (why : Cause) → Run c log → must (now c log) ≡ Some (Exactly (entries.Stop a why)) → GoesOn c (now c log)
+stop_goes_on c log a why run is = goes_by c (now c log) (Exactly (entries.Stop a why)) (entries.Stop a why) is refl (stop_stands c log a why run is)
 
 pub adapters_now : (c : Inputs) (log : List Entry) → Run c log → length (now c log).owner.adapters ≡ length c.adapters
 adapters_now c log run = (standing_now c log run).ones.count

@@ -1,24 +1,31 @@
 -- Duties of a run that are served: where something must stand, there is an entry that may. Each record is the contract of a function of src/laws.rt that
 -- does nothing. (The duties of the owner machine: `DutyLaws` of crates/legal_run/specs/EntryLaws.antt.)
-use Rattle.std.specs.Prelude.{◌≡◌, ℕ, ◌++◌, true, List, ◌∷◌, length, Some, Ok}
+use Rattle.std.specs.Prelude.{◌≡◌, ℕ, ◌++◌, true, ◌&&◌, ◌==◌, List, [], ◌∷◌, length, slice_get, Option, Some, Ok}
+use Rattle.std.specs.List.{list_any}
 use Rattle.nd_base.specs.declared.numbers.Addr.{Addr}
 use Rattle.nd_base.specs.declared.numbers.AdapterNo.{AdapterNo}
 use Rattle.nd_base.specs.declared.numbers.CtxNo.{CtxNo}
 use Rattle.nd_base.specs.declared.numbers.RequestNo.{RequestNo}
 use Rattle.nd_base.specs.declared.numbers.Status.{Status}
 use Rattle.log_fields.specs.declared.field_values.Cause.{Cause}
+use Rattle.log_fields.specs.declared.field_values.Handler.{Handler}
 use Rattle.call_log.specs.declared.entry.Entry.{Entry}
 use Rattle.call_log.specs.declared.entry.Entry.TheVariants as entries
 use Rattle.guest_world.specs.declared.answer.Answer.TheVariants.{Now}
 use Rattle.guest_world.specs.declared.answer.Reply.{Reply}
 use Rattle.guest_world.specs.declared.world.World.{World}
 use Rattle.import_answers.specs.Outcomes.{Comes}
-use Rattle.owner_machine.specs.State.{stands}
-use Rattle.legal_run.specs.State.{Inputs, Calling, Makes, adapter_of, call_at}
+use Rattle.owner_machine.specs.declared.rows.Context.TheVariants.{Open}
+use Rattle.owner_machine.specs.declared.rows.OpenCall.{OpenCall}
+use Rattle.owner_machine.specs.State.{at, stands}
+use Rattle.owner_machine.specs.Packets.{at_miniport}
+use Rattle.legal_run.specs.State.{Inputs, Calling, Makes, Verdicts, adapter_of, call_at, context_at}
 use Rattle.legal_run.specs.Calls.{outcome_of}
-use Rattle.legal_run.specs.Must.{Exactly, ReplyOf, must}
+use Rattle.legal_run.specs.After.{after}
+use Rattle.legal_run.specs.Must.{Due, Exactly, ReplyOf, must}
 use Rattle.legal_run.specs.Run.{Run, Meets, now}
 use Rattle.legal_run.specs.EntryLaws.{GoesOn}
+use Rattle.legal_run.specs.VerdictLaws.{is_send}
 
 -- ---- stops
 
@@ -52,3 +59,19 @@ pub record EndLaws : Type 0 where
   -- and so may the answer to a request
   pub answers : (c : Inputs) (log : List Entry) (r : RequestNo) (status : Status) (bytes : List ℕ) → Run c log → must (now c log) ≡ Some (Exactly (entries.Answer r status bytes))
       → Meets c (now c log) (entries.Answer r status bytes)
+
+-- ---- every duty
+
+pub record ServedLaws : Type 0 where
+  -- where such a handler leaves, each packet that it was entered for, and that its miniport holds still, is its adapter's, and was handed by its own enter
+  pub handed : (c : Inputs) (log : List Entry) (x : CtxNo) (eax : ℕ) (a : AdapterNo) (h : Handler) (enter : ℕ) (call : Option OpenCall) (k : ℕ) → is_send h ≡ true
+      → Run c (log ++ entries.Leave x eax ∷ []) → slice_get (now c log).owner.contexts x.0 ≡ Some (Open (Some a) h enter call)
+      → list_any (λ i. i == k) (context_at (now c log) x.0).subject ≡ true → at_miniport (now c log).owner k ≡ true
+      → at (λ p. (p.adapter.0 == a.0) && (p.hand == enter)) (now c log).owner.packets k ≡ true
+  -- what is drawn from a leave may stand, one entry after the other: completions, packets that go back into the queue, an answer, the end of a reset
+  pub drawn : (c : Inputs) (log : List Entry) (e : Entry) (es : List Entry) → Run c log → (now c log).next ≡ Verdicts (e ∷ es)
+      → Meets c (now c log) e × ((after c (now c log) e).next ≡ Verdicts es)
+  -- an entry that must stand may stand
+  pub entries : (c : Inputs) (log : List Entry) (e : Entry) → Run c log → must (now c log) ≡ Some (Exactly e) → Meets c (now c log) e
+  -- each duty has an entry that serves it, and that may stand
+  pub each : (c : Inputs) (log : List Entry) (due : Due) → Run c log → must (now c log) ≡ Some due → GoesOn c (now c log)

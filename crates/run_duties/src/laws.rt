@@ -1,8 +1,8 @@
 //! Duties of a run that are served: each law is the contract of a function that does nothing.
 
-ghost use Rattle.run_duties.specs.Laws.{CallLaws, EndLaws, StopLaws};
+ghost use Rattle.run_duties.specs.Laws.{CallLaws, EndLaws, ServedLaws, StopLaws};
 
-use legal_run::{code_laws, replies_are_taken};
+use legal_run::{code_laws, duties_are_served, replies_are_taken};
 use packet_pool::room_laws;
 
 /// Where a stop is due it may stand: behind a breach, a fault, a spent budget, and behind another stop.
@@ -25,4 +25,14 @@ pub fn ends_may_stand()
     ensures { EndLaws }
 {
     code_laws();
+}
+
+/// Each duty has an entry that serves it: no run is stuck where something must stand.
+pub fn each_duty_is_served()
+    ensures { ServedLaws }
+{
+    code_laws();
+    replies_are_taken();
+    duties_are_served();
+    room_laws();
 }

@@ -4,4 +4,4 @@
 
 mod laws;
 
-pub use laws::{calls_go_on, ends_may_stand, stops_may_stand};
+pub use laws::{calls_go_on, each_duty_is_served, ends_may_stand, stops_may_stand};

@@ -1,4 +1,4 @@
-use Rattle.run_duties.proofs.Ends.{reset_goes_on, answer_goes_on}
+use Rattle.run_duties.proofs.Served.{reset_goes_on, answer_goes_on}
 use Rattle.run_duties.proofs.laws.ends_may_stand.Goals as goal
 
 pub returns : goal.returns

@@ -1,4 +1,4 @@
--- Of an open handler of a query or set: its request was handed by its own enter, is answered, or the handler never runs on.
+-- Open handlers of one kind, each by the number of its enter, and what each was entered for: how both stay.
 use Rattle.std.proofs.Common.{◌≡◌, ℕ, zero, suc, Bool, true, false, cond, not, ◌&&◌, ◌==◌, List, [], ◌∷◌, Option, Some, None, refl, sym, ap, ◌∙◌, slice_set, slice_index_or, arith}
 use Rattle.std.proofs.lemmas.Bool.{eqb-true}
 use Rattle.nd_base.specs.declared.numbers.AdapterNo.{AdapterNo}
@@ -22,22 +22,26 @@ use Rattle.legal_run.specs.State.{Inputs, State, Context, Calling, Wait, context
 use Rattle.legal_run.specs.Calls.{leaves}
 use Rattle.legal_run.specs.Replies.{Answered, Told, answered as answered_to}
 use Rattle.legal_run.specs.After.{after, framed, all_spoke, charge_to, with_wait, taken, left_row, replied, spun, is_breaking, recognized, owner_left}
-use Rattle.legal_run.specs.EntryLaws.{is_ask}
 use Rattle.run_duties.proofs.Rows.{true_both, kept}
 
--- ---- open handlers of a query or set
+-- ---- open handlers of one kind
 
--- such a handler of the adapter, of that enter
-abbrev pub is_asking : (a n : ℕ) → OwnerContext → Bool
-is_asking a n (kept_context.Open (Some b) h m call) = (b.0 == a) && (is_ask h && (m == n))
-is_asking a n _ = false
+-- it runs such a handler of the adapter, of that enter
+abbrev pub runs_as : (kind : Handler → Bool) (a n : ℕ) → OwnerContext → Bool
+runs_as kind a n (kept_context.Open (Some b) h m call) = (b.0 == a) && (kind h && (m == n))
+runs_as kind a n _ = false
 
-set_free : (a n : ℕ) (cs : List OwnerContext) (k y : ℕ) → at (is_asking a n) (slice_set cs k kept_context.Free) y ≡ true → at (is_asking a n) cs y ≡ true
-set_free a n [] k y h = h
-set_free a n (x ∷ cs) zero zero h = absurd (cc)
-set_free a n (x ∷ cs) zero (suc y) h = h
-set_free a n (x ∷ cs) (suc k) zero h = h
-set_free a n (x ∷ cs) (suc k) (suc y) h = set_free a n cs k y h
+pub set_free : (kind : Handler → Bool) (a n : ℕ) (cs : List OwnerContext) (k y : ℕ) → at (runs_as kind a n) (slice_set cs k kept_context.Free) y ≡ true → at (runs_as kind a n) cs y ≡ true
+set_free kind a n [] k y h = h
+set_free kind a n (x ∷ cs) zero zero h = absurd (cc)
+set_free kind a n (x ∷ cs) zero (suc y) h = h
+set_free kind a n (x ∷ cs) (suc k) zero h = h
+set_free kind a n (x ∷ cs) (suc k) (suc y) h = set_free kind a n cs k y h
+
+pub set_at : {A : Type 0} (test : A → Bool) (cs : List A) (k : ℕ) (z : A) → at test (slice_set cs k z) k ≡ true → test z ≡ true
+set_at test [] k z h = absurd (cc)
+set_at test (x ∷ cs) zero z h = h
+set_at test (x ∷ cs) (suc k) z h = set_at test cs k z h
 
 set_other : {A : Type 0} (test : A → Bool) (cs : List A) (k y : ℕ) (z : A) → (k == y) ≡ false → at test (slice_set cs k z) y ≡ true → at test cs y ≡ true
 set_other test [] k y z not h = h
@@ -49,66 +53,66 @@ set_other test (x ∷ cs) (suc k) (suc y) z not h = set_other test cs k y z (les
     less : (k y : ℕ) → (suc k == suc y) ≡ false → (k == y) ≡ false
     less k y h = grind arith
 
-transfer_asks : (a n m : ℕ) (x : OwnerContext) → is_asking a n (with_transfer m x) ≡ is_asking a n x
-transfer_asks a n m (kept_context.Open (Some b) h enter (Some call)) = refl
-transfer_asks a n m (kept_context.Open None h enter (Some call)) = refl
-transfer_asks a n m (kept_context.Open b h enter None) = refl
-transfer_asks a n m kept_context.Free = refl
+transfer_runs : (kind : Handler → Bool) (a n m : ℕ) (x : OwnerContext) → runs_as kind a n (with_transfer m x) ≡ runs_as kind a n x
+transfer_runs kind a n m (kept_context.Open (Some b) h enter (Some call)) = refl
+transfer_runs kind a n m (kept_context.Open None h enter (Some call)) = refl
+transfer_runs kind a n m (kept_context.Open b h enter None) = refl
+transfer_runs kind a n m kept_context.Free = refl
 
-begun_asks : (a n b m : ℕ) (cs : List OwnerContext) (y : ℕ) → at (is_asking a n) (transfer_begun b m cs) y ≡ true → at (is_asking a n) cs y ≡ true
-begun_asks a n b m [] y h = h
-begun_asks a n b m (x ∷ cs) y h = by_test (wants_transfer b x) y h (λ z. begun_asks a n b m cs z)
+begun_runs : (kind : Handler → Bool) (a n b m : ℕ) (cs : List OwnerContext) (y : ℕ) → at (runs_as kind a n) (transfer_begun b m cs) y ≡ true → at (runs_as kind a n) cs y ≡ true
+begun_runs kind a n b m [] y h = h
+begun_runs kind a n b m (x ∷ cs) y h = by_test (wants_transfer b x) y h (λ z. begun_runs kind a n b m cs z)
   where
-    by_test : (t : Bool) (y : ℕ) → at (is_asking a n) (cond t (with_transfer m x ∷ cs) (x ∷ transfer_begun b m cs)) y ≡ true
-        → ((z : ℕ) → at (is_asking a n) (transfer_begun b m cs) z ≡ true → at (is_asking a n) cs z ≡ true) → at (is_asking a n) (x ∷ cs) y ≡ true
-    by_test true zero h more = sym (transfer_asks a n m x) ∙ h
+    by_test : (t : Bool) (y : ℕ) → at (runs_as kind a n) (cond t (with_transfer m x ∷ cs) (x ∷ transfer_begun b m cs)) y ≡ true
+        → ((z : ℕ) → at (runs_as kind a n) (transfer_begun b m cs) z ≡ true → at (runs_as kind a n) cs z ≡ true) → at (runs_as kind a n) (x ∷ cs) y ≡ true
+    by_test true zero h more = sym (transfer_runs kind a n m x) ∙ h
     by_test true (suc y) h more = h
     by_test false zero h more = h
     by_test false (suc y) h more = more y h
 
-opened_asks : (a n : ℕ) (b : Option AdapterNo) (h : Handler) (m : ℕ) (cs : List OwnerContext) (y : ℕ) → at (is_asking a n) (contexts_entered b h m cs) y ≡ true → at (is_asking a n) cs y ≡ true
-opened_asks a n (Some b) handler.TransferData m cs y is = begun_asks a n b.0 m cs y is
-opened_asks a n None handler.TransferData m cs y is = is
-opened_asks a n (Some b) _ m cs y is = is
-opened_asks a n None _ m cs y is = is
+opened_runs : (kind : Handler → Bool) (a n : ℕ) (b : Option AdapterNo) (h : Handler) (m : ℕ) (cs : List OwnerContext) (y : ℕ) → at (runs_as kind a n) (contexts_entered b h m cs) y ≡ true → at (runs_as kind a n) cs y ≡ true
+opened_runs kind a n (Some b) handler.TransferData m cs y is = begun_runs kind a n b.0 m cs y is
+opened_runs kind a n None handler.TransferData m cs y is = is
+opened_runs kind a n (Some b) _ m cs y is = is
+opened_runs kind a n None _ m cs y is = is
 
-freed_asks : (a n b : ℕ) (cs : List OwnerContext) (y : ℕ) → at (is_asking a n) (freed b cs) y ≡ true → (at (is_asking a n) cs y ≡ true) × ((a == b) ≡ false)
-freed_asks a n b [] y h = absurd (cc)
-freed_asks a n b (x ∷ cs) zero h = here x h
+freed_runs : (kind : Handler → Bool) (a n b : ℕ) (cs : List OwnerContext) (y : ℕ) → at (runs_as kind a n) (freed b cs) y ≡ true → (at (runs_as kind a n) cs y ≡ true) × ((a == b) ≡ false)
+freed_runs kind a n b [] y h = absurd (cc)
+freed_runs kind a n b (x ∷ cs) zero h = here x h
   where
-    here : (x : OwnerContext) → is_asking a n (cond (runs any_handler b x) kept_context.Free x) ≡ true → (is_asking a n x ≡ true) × ((a == b) ≡ false)
+    here : (x : OwnerContext) → runs_as kind a n (cond (runs any_handler b x) kept_context.Free x) ≡ true → (runs_as kind a n x ≡ true) × ((a == b) ≡ false)
     here kept_context.Free h = absurd (cc)
     here (kept_context.Open None k enter call) h = absurd (cc)
     here (kept_context.Open (Some d) k enter call) h = by_test (d.0 == b) refl h
       where
-        by_test : (t : Bool) → (d.0 == b) ≡ t → is_asking a n (cond t kept_context.Free (kept_context.Open (Some d) k enter call)) ≡ true
-            → (is_asking a n (kept_context.Open (Some d) k enter call) ≡ true) × ((a == b) ≡ false)
+        by_test : (t : Bool) → (d.0 == b) ≡ t → runs_as kind a n (cond t kept_context.Free (kept_context.Open (Some d) k enter call)) ≡ true
+            → (runs_as kind a n (kept_context.Open (Some d) k enter call) ≡ true) × ((a == b) ≡ false)
         by_test true is h = absurd (cc)
         by_test false is h = (h, ap (λ (m : ℕ). m == b) (sym (eqb-true d.0 a (true_both _ _ h).0)) ∙ is)
-freed_asks a n b (x ∷ cs) (suc y) h = freed_asks a n b cs y h
+freed_runs kind a n b (x ∷ cs) (suc y) h = freed_runs kind a n b cs y h
 
-entry_asks : (a n : ℕ) (cs : List OwnerContext) (y : ℕ) → at (is_asking a n) (entry_freed cs) y ≡ true → at (is_asking a n) cs y ≡ true
-entry_asks a n [] y h = h
-entry_asks a n (kept_context.Open None k enter call ∷ cs) zero h = absurd (cc)
-entry_asks a n (kept_context.Open (Some b) k enter call ∷ cs) zero h = h
-entry_asks a n (kept_context.Free ∷ cs) zero h = h
-entry_asks a n (kept_context.Open None k enter call ∷ cs) (suc y) h = entry_asks a n cs y h
-entry_asks a n (kept_context.Open (Some b) k enter call ∷ cs) (suc y) h = entry_asks a n cs y h
-entry_asks a n (kept_context.Free ∷ cs) (suc y) h = entry_asks a n cs y h
+entry_runs : (kind : Handler → Bool) (a n : ℕ) (cs : List OwnerContext) (y : ℕ) → at (runs_as kind a n) (entry_freed cs) y ≡ true → at (runs_as kind a n) cs y ≡ true
+entry_runs kind a n [] y h = h
+entry_runs kind a n (kept_context.Open None k enter call ∷ cs) zero h = absurd (cc)
+entry_runs kind a n (kept_context.Open (Some b) k enter call ∷ cs) zero h = h
+entry_runs kind a n (kept_context.Free ∷ cs) zero h = h
+entry_runs kind a n (kept_context.Open None k enter call ∷ cs) (suc y) h = entry_runs kind a n cs y h
+entry_runs kind a n (kept_context.Open (Some b) k enter call ∷ cs) (suc y) h = entry_runs kind a n cs y h
+entry_runs kind a n (kept_context.Free ∷ cs) (suc y) h = entry_runs kind a n cs y h
 
-stopped_asks : (a n b : ℕ) (cs : List OwnerContext) (y : ℕ) (all : Bool) → at (is_asking a n) (contexts_stopped cs b all) y ≡ true → (at (is_asking a n) cs y ≡ true) × ((a == b) ≡ false)
-stopped_asks a n b cs y true h = freed_asks a n b cs y (entry_asks a n (freed b cs) y h)
-stopped_asks a n b cs y false h = freed_asks a n b cs y h
+stopped_runs : (kind : Handler → Bool) (a n b : ℕ) (cs : List OwnerContext) (y : ℕ) (all : Bool) → at (runs_as kind a n) (contexts_stopped cs b all) y ≡ true → (at (runs_as kind a n) cs y ≡ true) × ((a == b) ≡ false)
+stopped_runs kind a n b cs y true h = freed_runs kind a n b cs y (entry_runs kind a n (freed b cs) y h)
+stopped_runs kind a n b cs y false h = freed_runs kind a n b cs y h
 
-calling_asks : (a n import : ℕ) (words : List ℕ) (x : OwnerContext) → is_asking a n (calling import words x) ≡ is_asking a n x
-calling_asks a n import words (kept_context.Open (Some b) h enter call) = refl
-calling_asks a n import words (kept_context.Open None h enter call) = refl
-calling_asks a n import words kept_context.Free = refl
+calling_runs : (kind : Handler → Bool) (a n import : ℕ) (words : List ℕ) (x : OwnerContext) → runs_as kind a n (calling import words x) ≡ runs_as kind a n x
+calling_runs kind a n import words (kept_context.Open (Some b) h enter call) = refl
+calling_runs kind a n import words (kept_context.Open None h enter call) = refl
+calling_runs kind a n import words kept_context.Free = refl
 
-answered_asks : (a n : ℕ) (x : OwnerContext) → is_asking a n (answered_call x) ≡ is_asking a n x
-answered_asks a n (kept_context.Open (Some b) h enter call) = refl
-answered_asks a n (kept_context.Open None h enter call) = refl
-answered_asks a n kept_context.Free = refl
+answered_runs : (kind : Handler → Bool) (a n : ℕ) (x : OwnerContext) → runs_as kind a n (answered_call x) ≡ runs_as kind a n x
+answered_runs kind a n (kept_context.Open (Some b) h enter call) = refl
+answered_runs kind a n (kept_context.Open None h enter call) = refl
+answered_runs kind a n kept_context.Free = refl
 
 -- an entry that enters that context, or stops that adapter
 abbrev pub enters_at : Entry → ℕ → Bool
@@ -120,22 +124,22 @@ stops_it (entries.Stop b _) a = a == b.0
 stops_it _ a = false
 
 -- a handler that is open behind an entry, and was not entered by it, was open, and its adapter is not the one that was stopped
-asks_back : (o : Owner) (e : Entry) (y a n : ℕ) → enters_at e y ≡ false → at (is_asking a n) (owners.after o e).contexts y ≡ true → (at (is_asking a n) o.contexts y ≡ true) × (stops_it e a ≡ false)
-asks_back o (entries.Enter b x h words writes) y a n not is = (opened_asks a n b h o.enters o.contexts y (set_other (is_asking a n) (contexts_entered b h o.enters o.contexts) x.0 y _ not is), refl)
-asks_back o (entries.Leave x eax) y a n not is = (set_free a n o.contexts x.0 y is, refl)
-asks_back o (entries.Call x import words) y a n not is = (sym (kept (is_asking a n) (calling import words) o.contexts x.0 y (calling_asks a n import words)) ∙ is, refl)
-asks_back o (entries.Reply x eax writes) y a n not is = (sym (kept (is_asking a n) answered_call o.contexts x.0 y (answered_asks a n)) ∙ is, refl)
-asks_back o (entries.Stop b why) y a n not is = stopped_asks a n b.0 o.contexts y (all_stopped (change stopped o.adapters b.0)) is
-asks_back o _ y a n not is = (is, refl)
+runs_back : (o : Owner) (e : Entry) (y : ℕ) (kind : Handler → Bool) (a n : ℕ) → enters_at e y ≡ false → at (runs_as kind a n) (owners.after o e).contexts y ≡ true → (at (runs_as kind a n) o.contexts y ≡ true) × (stops_it e a ≡ false)
+runs_back o (entries.Enter b x h words writes) y kind a n not is = (opened_runs kind a n b h o.enters o.contexts y (set_other (runs_as kind a n) (contexts_entered b h o.enters o.contexts) x.0 y _ not is), refl)
+runs_back o (entries.Leave x eax) y kind a n not is = (set_free kind a n o.contexts x.0 y is, refl)
+runs_back o (entries.Call x import words) y kind a n not is = (sym (kept (runs_as kind a n) (calling import words) o.contexts x.0 y (calling_runs kind a n import words)) ∙ is, refl)
+runs_back o (entries.Reply x eax writes) y kind a n not is = (sym (kept (runs_as kind a n) answered_call o.contexts x.0 y (answered_runs kind a n)) ∙ is, refl)
+runs_back o (entries.Stop b why) y kind a n not is = stopped_runs kind a n b.0 o.contexts y (all_stopped (change stopped o.adapters b.0)) is
+runs_back o _ y kind a n not is = (is, refl)
 
-left_back : (o : Owner) (x : CtxNo) (eax : ℕ) (breaks : Bool) (y a n : ℕ) → at (is_asking a n) (owner_left o (entries.Leave x eax) breaks).contexts y ≡ true → at (is_asking a n) o.contexts y ≡ true
-left_back o x eax true y a n is = is
-left_back o x eax false y a n is = set_free a n o.contexts x.0 y is
+left_back : (o : Owner) (x : CtxNo) (eax : ℕ) (breaks : Bool) (y : ℕ) (kind : Handler → Bool) (a n : ℕ) → at (runs_as kind a n) (owner_left o (entries.Leave x eax) breaks).contexts y ≡ true → at (runs_as kind a n) o.contexts y ≡ true
+left_back o x eax true y kind a n is = is
+left_back o x eax false y kind a n is = set_free kind a n o.contexts x.0 y is
 
-pub run_back : (c : Inputs) (s : State) (e : Entry) (y a n : ℕ) → enters_at e y ≡ false → at (is_asking a n) (after c s e).owner.contexts y ≡ true → (at (is_asking a n) s.owner.contexts y ≡ true) × (stops_it e a ≡ false)
-run_back c s (entries.Leave x eax) y a n not is = (left_back s.owner x eax (is_breaking (leaves c s x eax)) y a n is, refl)
-run_back c s (entries.Reply x eax writes) y a n not is = asks_back s.owner (entries.Reply x eax writes) y a n refl is
-run_back c s e y a n not is = asks_back s.owner e y a n not is
+pub run_back : (c : Inputs) (s : State) (e : Entry) (y : ℕ) (kind : Handler → Bool) (a n : ℕ) → enters_at e y ≡ false → at (runs_as kind a n) (after c s e).owner.contexts y ≡ true → (at (runs_as kind a n) s.owner.contexts y ≡ true) × (stops_it e a ≡ false)
+run_back c s (entries.Leave x eax) y kind a n not is = (left_back s.owner x eax (is_breaking (leaves c s x eax)) y kind a n is, refl)
+run_back c s (entries.Reply x eax writes) y kind a n not is = runs_back s.owner (entries.Reply x eax writes) y kind a n refl is
+run_back c s e y kind a n not is = runs_back s.owner e y kind a n not is
 
 -- ---- what a handler was entered for stays
 

@@ -66,15 +66,15 @@ module _ (test : Line → Bool) where
   steps [] xs o h = subst (λ (ls : List Line). IsFirst test ls o) (sym (append-nil xs)) h
   steps (y ∷ ys) xs o h = subst (λ (ls : List Line). IsFirst test ls (fold (earlier_if test) (earlier_if test o y) ys)) (append_assoc xs (y ∷ []) ys) (steps ys (xs ++ y ∷ []) (earlier_if test o y) (step xs o y h))
 
-  pub earliest-is_first : (ls : List Line) → IsFirst test ls (earliest test ls)
+  pub earliest_is_first : (ls : List Line) → IsFirst test ls (earliest test ls)
   unfolding earliest
-  earliest-is_first ls = steps ls [] None refl
+  earliest_is_first ls = steps ls [] None refl
 
   pub earliest-some : (ls : List Line) (line : Line) → earliest test ls ≡ Some line → IsEarliest test ls line
-  earliest-some ls line h = subst (λ (o : Option Line). IsFirst test ls o) h (earliest-is_first ls)
+  earliest-some ls line h = subst (λ (o : Option Line). IsFirst test ls o) h (earliest_is_first ls)
 
   pub earliest-none : (ls : List Line) → earliest test ls ≡ None → HasNone test ls
-  earliest-none ls h = subst (λ (o : Option Line). IsFirst test ls o) h (earliest-is_first ls)
+  earliest-none ls h = subst (λ (o : Option Line). IsFirst test ls o) h (earliest_is_first ls)
 
 -- ---- what is answered once the model line and its install section are found
 

@@ -4,3 +4,4 @@ pub mod StringLaws
 pub mod AnswerLaws
 pub mod ParamLists
 pub mod ParamLaws
+pub mod InPlaceLaws

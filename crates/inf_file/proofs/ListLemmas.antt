@@ -1,8 +1,8 @@
 -- One element more, and folds over parts of a list.
-use Rattle.std.proofs.Common.{◌≡◌, ℕ, ◌+◌, ◌<◌, List, [], ◌∷◌, ◌++◌, length, map, take, get_or, Option, None, Some, refl, sym, ap, ◌∙◌}
+use Rattle.std.proofs.Common.{◌≡◌, ℕ, ◌+◌, ◌<◌, List, [], ◌∷◌, ◌++◌, length, map, take, get_or, Option, None, Some, refl, sym, ap, ◌∙◌, append_assoc}
 use Rattle.std.specs.List.{fold, flat_map, filter_map, cons_option}
 use Rattle.std.specs.Option.{option_or}
-use Rattle.std.proofs.lemmas.List.{take_more, map-append}
+use Rattle.std.proofs.lemmas.List.{take_more, map-append, append-nil}
 use Rattle.std.proofs.lemmas.List.Sums.{fold-append}
 use Rattle.std.proofs.lemmas.List.Elements.{filter_map-append}
 use Rattle.std.proofs.lemmas.List.Concat.{flat_map-cons}
@@ -10,8 +10,14 @@ use Rattle.std.proofs.lemmas.List.Concat.{flat_map-cons}
 pub take_item : {A : Type 0} (xs : List A) (i : ℕ) (x : A) → i < length xs → x ≡ get_or xs i x → take (i + 1) xs ≡ take i xs ++ x ∷ []
 take_item xs i x lt e = take_more xs i x lt ∙ ap (λ y. take i xs ++ y ∷ []) (sym e)
 
-pub filter_map-more : {A B : Type 0} (g : A → Option B) (xs : List A) (i : ℕ) (x : A) → i < length xs → x ≡ get_or xs i x → filter_map g (take (i + 1) xs) ≡ filter_map g (take i xs) ++ cons_option (g x) []
-filter_map-more g xs i x lt e = ap (filter_map g) (take_item xs i x lt e) ∙ filter_map-append g (take i xs) (x ∷ [])
+pub filter_map_more : {A B : Type 0} (g : A → Option B) (xs : List A) (i : ℕ) (x : A) → i < length xs → x ≡ get_or xs i x → filter_map g (take (i + 1) xs) ≡ filter_map g (take i xs) ++ cons_option (g x) []
+filter_map_more g xs i x lt e = ap (filter_map g) (take_item xs i x lt e) ∙ filter_map-append g (take i xs) (x ∷ [])
+
+pub filter_map_behind : {A B : Type 0} (g : A → Option B) (front : List B) (xs : List A) (i : ℕ) (x : A) → i < length xs → x ≡ get_or xs i x → (front ++ filter_map g (take i xs)) ++ cons_option (g x) [] ≡ front ++ filter_map g (take (i + 1) xs)
+filter_map_behind g front xs i x lt e = append_assoc front (filter_map g (take i xs)) (cons_option (g x) []) ∙ ap (λ ys. front ++ ys) (sym (filter_map_more g xs i x lt e))
+
+pub nothing_behind : {A : Type 0} (front : List A) → front ≡ front ++ []
+nothing_behind front = sym (append-nil front)
 
 pub fold-flat : {A B C : Type 0} (f : B → A → B) (g : C → List A) (a : B) (xs : List C) → fold (λ b x. fold f b (g x)) a xs ≡ fold f a (flat_map g xs)
 fold-flat f g a [] = refl

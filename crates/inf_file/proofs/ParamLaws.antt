@@ -109,9 +109,9 @@ module _ (ss : List Section) (places : List ℕ) where
   fold-once : (test : Line → Bool) (b : Option Line) → fold (earlier_if test) b (lines_of_all ss (thinned places)) ≡ fold (earlier_if test) b (lines_of_all ss places)
   fold-once test b = fold-thinned (earlier_if test) (earlier_if-once test) (earlier_if-still test) (lines_at ss) b places
 
-  pub earliest-thinned : (test : Line → Bool) → earliest test (lines_of_all ss (thinned places)) ≡ earliest test (lines_of_all ss places)
+  pub earliest_thinned : (test : Line → Bool) → earliest test (lines_of_all ss (thinned places)) ≡ earliest test (lines_of_all ss places)
   unfolding earliest
-  earliest-thinned test = fold-once test None
+  earliest_thinned test = fold-once test None
 
   read-thinned : (test : Line → Bool) (makers : List Line) (model : Line) (ds : List Line) → earliest test (lines_read makers model ds (lines_of_all ss (thinned places))) ≡ earliest test (lines_read makers model ds (lines_of_all ss places))
   unfolding earliest
@@ -125,14 +125,14 @@ module _ (ss : List Section) (places : List ℕ) where
       let fewer = lines_of_all ss (thinned places) in
       let all = lines_of_all ss places in
       ap (λ (o : Option Line). unless_lacking o (unless_bad (earliest (is_bad s) fewer) (params_of s fewer))) (read-thinned (line_lacks s) makers model ds)
-      ∙ ap (λ (o : Option Line). unless_lacking (earliest (line_lacks s) (lines_read makers model ds all)) (unless_bad o (params_of s fewer))) (earliest-thinned (is_bad s))
+      ∙ ap (λ (o : Option Line). unless_lacking (earliest (line_lacks s) (lines_read makers model ds all)) (unless_bad o (params_of s fewer))) (earliest_thinned (is_bad s))
       ∙ ap (λ (ps : List Param). unless_lacking (earliest (line_lacks s) (lines_read makers model ds all)) (unless_bad (earliest (is_bad s) all) ps)) (params_of-thinned s (lines_at ss) places)
 
 -- the sections of one directive more
-pub places-more : {A : Type 0} (now : A → Line) (s : Strings) (ss : List Section) (ds : List A) (i : ℕ) (d : A) (values : List (List ℕ)) (places next : List ℕ) → i < length ds → d ≡ get_or ds i d → values ≡ (now d).values
+pub places_more : {A : Type 0} (now : A → Line) (s : Strings) (ss : List Section) (ds : List A) (i : ℕ) (d : A) (values : List (List ℕ)) (places next : List ℕ) → i < length ds → d ≡ get_or ds i d → values ≡ (now d).values
     → next ≡ places ++ named_places s ss values → places ≡ reg_places s ss (map now (take i ds)) → next ≡ reg_places s ss (map now (take (i + 1) ds))
 unfolding named_places
-places-more now s ss ds i d values places next lt e v n p =
+places_more now s ss ds i d values places next lt e v n p =
     let f = λ (value : List ℕ). place_named (replaced s value) ss in
     let all = λ (ls : List Line). flat_map (λ (line : Line). line.values) ls in
     let so_far = map now (take i ds) in

@@ -24,20 +24,20 @@ unfolding with_param
 inserted [] name v = refl
 inserted (e ∷ es) name v = elim (cases_Bool (is_same name e.0)) [ inl on ↦ rw on refl | inr off ↦ rw off (ap (λ (rest : List Param). param_in e ∷ rest) (inserted es name v)) ]
 
-pub default-new : (es : List (List ℕ × ParamValue)) (name : List ℕ) (v : ParamValue) → is_some (lookup (is_same name) es) ≡ false → params_in (insert_entry is_same es name v) ≡ with_default (params_in es) (record { name = name; value = v })
+pub default_new : (es : List (List ℕ × ParamValue)) (name : List ℕ) (v : ParamValue) → is_some (lookup (is_same name) es) ≡ false → params_in (insert_entry is_same es name v) ≡ with_default (params_in es) (record { name = name; value = v })
 unfolding with_default
-default-new [] name v h = refl
-default-new (e ∷ es) name v h = elim (cases_Bool (is_same name e.0)) [
+default_new [] name v h = refl
+default_new (e ∷ es) name v h = elim (cases_Bool (is_same name e.0)) [
   | inl on ↦ let h2 = rw on at h in absurd cc
-  | inr off ↦ let h2 = rw off at h in rw off (ap (λ (rest : List Param). param_in e ∷ rest) (default-new es name v h2))
+  | inr off ↦ let h2 = rw off at h in rw off (ap (λ (rest : List Param). param_in e ∷ rest) (default_new es name v h2))
 ]
 
-pub default-old : (es : List (List ℕ × ParamValue)) (name : List ℕ) (v : ParamValue) → is_some (lookup (is_same name) es) ≡ true → params_in es ≡ with_default (params_in es) (record { name = name; value = v })
+pub default_old : (es : List (List ℕ × ParamValue)) (name : List ℕ) (v : ParamValue) → is_some (lookup (is_same name) es) ≡ true → params_in es ≡ with_default (params_in es) (record { name = name; value = v })
 unfolding with_default
-default-old [] name v h = absurd cc
-default-old (e ∷ es) name v h = elim (cases_Bool (is_same name e.0)) [
+default_old [] name v h = absurd cc
+default_old (e ∷ es) name v h = elim (cases_Bool (is_same name e.0)) [
   | inl on ↦ rw on refl
-  | inr off ↦ let h2 = rw off at h in rw off (ap (λ (rest : List Param). param_in e ∷ rest) (default-old es name v h2))
+  | inr off ↦ let h2 = rw off at h in rw off (ap (λ (rest : List Param). param_in e ∷ rest) (default_old es name v h2))
 ]
 
 -- ---- parameters one behind the other: their names, the value of a name, and that these tell them

@@ -1,5 +1,5 @@
 -- Strings under their keys, and how keys between percent signs are replaced.
-use Rattle.std.proofs.Common.{inl, inr, ◌≡◌, ℕ, ◌+◌, ◌<◌, ◌≤◌, Bool, true, false, ◌||◌, List, [], ◌∷◌, ◌++◌, length, Option, None, Some, is_some, refl, sym, ap, ◌∙◌, arith, append_assoc}
+use Rattle.std.proofs.Common.{inl, inr, ◌≡◌, ℕ, ◌<◌, ◌≤◌, Bool, true, false, ◌||◌, List, [], ◌∷◌, ◌++◌, length, Option, None, Some, is_some, refl, sym, ap, ◌∙◌, arith, append_assoc}
 use Rattle.std.specs.Prelude.{if◌then◌else◌}
 use Rattle.std.proofs.lemmas.List.{append-nil}
 use Rattle.std.specs.List.{slice_split, join_with_byte, fold, find}
@@ -21,18 +21,18 @@ fun_ext h = λ i x. h x i
 
 -- ---- the table
 
-pub no_strings-in : (es : List (List ℕ × List ℕ)) → es ≡ [] → string_in es ≡ no_strings
+pub no_strings_in : (es : List (List ℕ × List ℕ)) → es ≡ [] → string_in es ≡ no_strings
 unfolding string_in
-no_strings-in [] h = fun_ext (λ key. refl)
-no_strings-in (e ∷ es) h = absurd cc
+no_strings_in [] h = fun_ext (λ key. refl)
+no_strings_in (e ∷ es) h = absurd cc
 
-pub with_string-none : (s : Strings) (line : Line) → line.key ≡ None → s ≡ with_string s line
+pub with_string_none : (s : Strings) (line : Line) → None ≡ line.key → s ≡ with_string s line
 unfolding has_key
-with_string-none s line h = fun_ext (λ key. sym (or_none (s key)) ∙ rw h refl)
+with_string_none s line h = fun_ext (λ key. sym (or_none (s key)) ∙ rw (← h) refl)
 
-pub with_string-some : (s : Strings) (line : Line) (key : List ℕ) → line.key ≡ Some key → or_string s key (value_at 0 line) ≡ with_string s line
+pub with_string_some : (s : Strings) (line : Line) (key : List ℕ) → Some key ≡ line.key → or_string s key (value_at 0 line) ≡ with_string s line
 unfolding has_key
-with_string-some s line key h = fun_ext (λ asked. rw h refl)
+with_string_some s line key h = fun_ext (λ asked. rw (← h) refl)
 
 -- keys that are the same have one string
 same_string : (es : List (List ℕ × List ℕ)) (a b : List ℕ) → is_same a b ≡ true → lookup (is_same a) es ≡ lookup (is_same b) es
@@ -40,9 +40,9 @@ same_string [] a b h = refl
 same_string (e ∷ es) a b h = rw (same_laws.congr a b e.0 h, same_string es a b h) refl
 
 -- a key that is there keeps its string
-pub or_string-old : (es : List (List ℕ × List ℕ)) (key text : List ℕ) → is_some (lookup (is_same key) es) ≡ true → string_in es ≡ or_string (string_in es) key text
+pub or_string_old : (es : List (List ℕ × List ℕ)) (key text : List ℕ) → is_some (lookup (is_same key) es) ≡ true → string_in es ≡ or_string (string_in es) key text
 unfolding string_in
-or_string-old es key text there = fun_ext (λ asked. elim (cases_Bool (is_same asked key)) [
+or_string_old es key text there = fun_ext (λ asked. elim (cases_Bool (is_same asked key)) [
   | inl on ↦ rw on (kept (lookup (is_same asked) es) (ap (λ (o : Option (List ℕ)). is_some o) (same_string es asked key on) ∙ there))
   | inr off ↦ rw off (sym (or_none _))
 ])
@@ -52,9 +52,9 @@ or_string-old es key text there = fun_ext (λ asked. elim (cases_Bool (is_same a
     kept (Some x) h = refl
 
 -- a new key has the string that it is given
-pub or_string-new : (es : List (List ℕ × List ℕ)) (key text : List ℕ) → is_some (lookup (is_same key) es) ≡ false → string_in (insert_entry is_same es key text) ≡ or_string (string_in es) key text
+pub or_string_new : (es : List (List ℕ × List ℕ)) (key text : List ℕ) → is_some (lookup (is_same key) es) ≡ false → string_in (insert_entry is_same es key text) ≡ or_string (string_in es) key text
 unfolding string_in
-or_string-new es key text none = fun_ext (λ asked. go es asked none)
+or_string_new es key text none = fun_ext (λ asked. go es asked none)
   where
     go : (fs : List (List ℕ × List ℕ)) (asked : List ℕ) → is_some (lookup (is_same key) fs) ≡ false → lookup (is_same asked) (insert_entry is_same fs key text) ≡ option_or (lookup (is_same asked) fs) (if is_same asked key then Some text else None)
     go [] asked h = elim (cases_Bool (is_same asked key)) [ inl on ↦ rw on refl | inr off ↦ rw off refl ]
@@ -100,27 +100,23 @@ none_asked test (x ∷ []) h = refl
 none_asked test (x ∷ y ∷ []) h = refl
 none_asked test (x ∷ y ∷ z ∷ parts) h = absurd (omega arith)
 
-pub lacks-last : (s : Strings) (text : List ℕ) → length (slice_split is_percent text) ≤ 2 → lacks_string s text ≡ false
+pub lacks_last : (s : Strings) (text : List ℕ) → length (slice_split is_percent text) ≤ 2 → lacks_string s text ≡ false
 unfolding lacks_string
-lacks-last s text h = none_asked (is_missing s) (slice_split is_percent text) h
+lacks_last s text h = none_asked (is_missing s) (slice_split is_percent text) h
 
 -- ---- the loops
 
-pub replaced-more : (s : Strings) (out first second rest plain key behind total : List ℕ) → slice_split is_percent rest ≡ plain ∷ (key ∷ slice_split is_percent behind) → first ≡ out ++ plain → second ≡ first ++ meaning s key
-    → out ++ replaced s rest ≡ total → second ++ replaced s behind ≡ total
-replaced-more s out first second rest plain key behind total h p q e =
-    ap (λ (x : List ℕ). x ++ replaced s behind) (q ∙ ap (λ (x : List ℕ). x ++ meaning s key) p)
-    ∙ append_assoc (out ++ plain) (meaning s key) (replaced s behind) ∙ append_assoc out plain (meaning s key ++ replaced s behind)
-    ∙ ap (λ (x : List ℕ). out ++ x) (sym (replaced-key s rest plain key behind h)) ∙ e
+pub replaced_more : (s : Strings) (out rest plain key behind : List ℕ) → slice_split is_percent rest ≡ plain ∷ (key ∷ slice_split is_percent behind) → ((out ++ plain) ++ meaning s key) ++ replaced s behind ≡ out ++ replaced s rest
+replaced_more s out rest plain key behind h = rw (replaced-key s rest plain key behind h, append_assoc, append_assoc) refl
 
-pub replaced-end : (s : Strings) (out last rest total : List ℕ) → length (slice_split is_percent rest) ≤ 2 → last ≡ out ++ rest → out ++ replaced s rest ≡ total → last ≡ total
-replaced-end s out last rest total h p e = p ∙ ap (λ (x : List ℕ). out ++ x) (sym (replaced-last s rest h)) ∙ e
+pub replaced_end : (s : Strings) (out rest : List ℕ) → length (slice_split is_percent rest) ≤ 2 → out ++ rest ≡ out ++ replaced s rest
+replaced_end s out rest h = ap (λ (x : List ℕ). out ++ x) (sym (replaced-last s rest h))
 
-pub lacks-more : (s : Strings) (rest plain key behind : List ℕ) (b total : Bool) → slice_split is_percent rest ≡ plain ∷ (key ∷ slice_split is_percent behind) → b ≡ is_missing s key → b ≡ false → lacks_string s rest ≡ total → lacks_string s behind ≡ total
-lacks-more s rest plain key behind b total h m off e = ap (λ (x : Bool). x || lacks_string s behind) (sym off ∙ m) ∙ sym (lacks-key s rest plain key behind h) ∙ e
+pub lacks_more : (s : Strings) (rest plain key behind : List ℕ) → slice_split is_percent rest ≡ plain ∷ (key ∷ slice_split is_percent behind) → is_missing s key ≡ false → lacks_string s behind ≡ lacks_string s rest
+lacks_more s rest plain key behind h off = sym (lacks-key s rest plain key behind h ∙ ap (λ (b : Bool). b || lacks_string s behind) off)
 
-pub lacks-found : (s : Strings) (rest plain key behind : List ℕ) (b total : Bool) → slice_split is_percent rest ≡ plain ∷ (key ∷ slice_split is_percent behind) → b ≡ is_missing s key → b ≡ true → lacks_string s rest ≡ total → true ≡ total
-lacks-found s rest plain key behind b total h m on e = ap (λ (x : Bool). x || lacks_string s behind) (sym on ∙ m) ∙ sym (lacks-key s rest plain key behind h) ∙ e
+pub lacks_found : (s : Strings) (rest plain key behind : List ℕ) → slice_split is_percent rest ≡ plain ∷ (key ∷ slice_split is_percent behind) → is_missing s key ≡ true → true ≡ lacks_string s rest
+lacks_found s rest plain key behind h on = sym (lacks-key s rest plain key behind h ∙ ap (λ (b : Bool). b || lacks_string s behind) on)
 
 -- ---- how keys between percent signs are replaced, and which string a key has
 

@@ -7,3 +7,4 @@ pub mod Parameters
 pub mod Repeats
 pub mod ByName
 pub mod Earliest
+pub mod InPlace

@@ -1,6 +1,6 @@
 //! The parameters of a hardware id.
 
-ghost use Rattle.std.specs.Prelude.{codes, ◌≡◌, true, map};
+ghost use Rattle.std.specs.Prelude.{codes, ◌≡◌, true, is_some, map};
 ghost use Rattle.inf_file.specs.Keyed.{string_in};
 ghost use Rattle.inf_text.specs.Sections.{lines_named};
 ghost use Rattle.inf_file.specs.Models.{is_signed};
@@ -8,6 +8,7 @@ ghost use Rattle.inf_file.specs.Parameters.{strings_in, model_in, install_of, an
 ghost use Rattle.nd_base.specs.Results.{Gives};
 
 use crate::gathered::params_of;
+use crate::in_place::refusal_in_place;
 use crate::lines::{directives_of, lines_read};
 use crate::models::{install_place, is_signed, model_of};
 use crate::param::{Param, ParamRefusal};
@@ -48,19 +49,24 @@ fn of_directives(
 }
 
 /// The parameters of a hardware id, where the signature is good.
-fn of_strings(source: &Source, hardware_id: &[u16]) -> Result<Vec<Param>, ParamRefusal>
-    requires { string_in source.now.strings.now ≡ strings_in source.now.inf.now }
-    ensures { Gives ParamRefusal.OutOfMemory (λ v. v.items) result (answer source.now.inf.now (model_in source.now.inf.now hardware_id.now) (install_of source.now.inf.now hardware_id.now)) }
+fn searched(inf: &Inf, alloc: Global, hardware_id: &[u16]) -> Result<Vec<Param>, ParamRefusal>
+    ensures { Gives ParamRefusal.OutOfMemory (λ v. v.items) result (answer inf.now (model_in inf.now hardware_id.now) (install_of inf.now hardware_id.now)) }
 {
-    let makers = source.inf.lines_named(b"Manufacturer");
-    let Some(model) = model_of(source, makers, hardware_id)? else {
+    let strings = Strings::of(alloc, inf.lines_named(b"Strings"))?;
+    let source = Source {
+        inf,
+        strings: &strings,
+        alloc,
+    };
+    let makers = inf.lines_named(b"Manufacturer");
+    let Some(model) = model_of(&source, makers, hardware_id)? else {
         return Err(ParamRefusal::NoModel);
     };
-    let Some(install) = install_place(source, model)? else {
+    let Some(install) = install_place(&source, model)? else {
         return Err(ParamRefusal::NoInstall);
     };
-    let directives = directives_of(source.alloc, source.inf.lines_at(install))?;
-    of_directives(source, makers, model, directives.as_slice())
+    let directives = directives_of(alloc, inf.lines_at(install))?;
+    of_directives(&source, makers, model, directives.as_slice())
 }
 
 /// The parameters that an INF file gives a hardware id, in the order of their first rows, with the
@@ -68,17 +74,15 @@ fn of_strings(source: &Source, hardware_id: &[u16]) -> Result<Vec<Param>, ParamR
 #[tactic(auto, unfolding(crate::specs::Parameters::parameters_of))]
 pub fn parameters(inf: &Inf, alloc: Global, hardware_id: &[u16]) -> Result<Vec<Param>, ParamRefusal>
     ensures value { Gives ParamRefusal.OutOfMemory (λ v. v.items) result (parameters_of inf.now hardware_id.now) }
-    // A file without a signature of Windows is refused as that, whatever memory there is.
-    ensures memory { result ≡ Err ParamRefusal.OutOfMemory → is_signed (lines_named (codes "Version") inf.now) ≡ true }
+    // A file without a signature of Windows, one without a model of the hardware id and one without
+    // its install section are refused as that, whatever memory there is.
+    ensures memory { result ≡ Err ParamRefusal.OutOfMemory → (is_signed (lines_named (codes "Version") inf.now) ≡ true) × (is_some (install_of inf.now hardware_id.now) ≡ true) }
 {
     if !is_signed(inf.lines_named(b"Version")) {
         return Err(ParamRefusal::NoVersion);
     }
-    let strings = Strings::of(alloc, inf.lines_named(b"Strings"))?;
-    let source = Source {
-        inf,
-        strings: &strings,
-        alloc,
-    };
-    of_strings(&source, hardware_id)
+    match searched(inf, alloc, hardware_id) {
+        Err(ParamRefusal::OutOfMemory) => Err(refusal_in_place(inf, hardware_id)),
+        answer => answer,
+    }
 }

@@ -47,6 +47,7 @@ impl Params {
     }
 
     /// Sets a parameter: one that is there keeps its place and spelling and takes the value.
+    #[tactic(auto, using(crate::proofs::ParamLists::inserted))]
     fn set(&mut self, param: Param) -> Result<(), OutOfMemory>
         ensures { OnOk result (self.new ≡ with_param self.old param) }
     {
@@ -56,6 +57,7 @@ impl Params {
     }
 
     /// Gives a parameter a value where it has none.
+    #[tactic(auto, using(crate::proofs::ParamLists::default_new))]
     fn set_default(&mut self, param: Param) -> Result<(), OutOfMemory>
         ensures { OnOk result (self.new ≡ with_default self.old param) }
     {

@@ -40,6 +40,7 @@ pub fn strings_are_replaced()
 
 /// The model line of a hardware id lists it and is the first of the file that does; there is none
 /// only where no model line lists the id.
+#[tactic(auto, using(crate::proofs::AnswerLaws::earliest_is_first))]
 pub fn first_model_is_taken()
     ensures { (ss : List InfSection) (id : List ℕ) → IsFirst (lists_id ss id) (models_in ss) (model_in ss id) }
 {}

@@ -4,6 +4,7 @@
 
 mod answer;
 mod gathered;
+mod in_place;
 mod laws;
 mod lines;
 mod models;

@@ -17,7 +17,7 @@ use inf_text::{Line, Name, is_same, is_word};
 use nd_base::{OutOfMemory, Wide};
 use std::alloc::Global;
 
-const DOT: u16 = 46;
+pub const DOT: u16 = 46;
 
 #[tactic(auto, unfolding(crate::specs::Models::is_good_signature))]
 fn is_good_signature(text: &[u16]) -> bool
@@ -86,7 +86,7 @@ const NT: [u16; 2] = [78, 84];
 
 /// Whether a decoration begins with `NTx86`.
 #[tactic(auto, unfolding(crate::specs::Models::is_nt_x86))]
-fn is_nt_x86(decoration: &[u16]) -> bool
+pub fn is_nt_x86(decoration: &[u16]) -> bool
     ensures { result ≡ is_nt_x86 decoration.now }
 {
     is_word(&decoration[..decoration.len().min(5)], b"NTx86")
@@ -110,24 +110,25 @@ fn decoration_place(
 }
 
 /// The place of the first section that exists of a name with one of the decorations.
+#[tactic(auto, unfolding(crate::specs::Models::decorated_place))]
 fn decorated_place(
     source: &Source,
     name: &[u16],
-    decorations: &[Wide],
+    mut decorations: &[Wide],
 ) -> Result<Option<usize>, OutOfMemory>
     ensures { IfOk result (λ place. place ≡ decorated_place (string_in source.now.strings.now) source.now.inf.now name.now decorations.now) }
 {
-    for value in decorations {
-        match decoration_place(source, name, value.as_slice())? {
-            Some(place) => return Ok(Some(place)),
-            None => {}
+    while let [decoration, rest @ ..] = decorations {
+        if let Some(place) = decoration_place(source, name, decoration.as_slice())? {
+            return Ok(Some(place));
         }
+        decorations = rest;
     }
     Ok(None)
 }
 
 /// All values but the first.
-fn behind_first(values: &[Wide]) -> &[Wide]
+pub fn behind_first(values: &[Wide]) -> &[Wide]
     ensures { result.now ≡ drop 1 values.now }
 {
     &values[values.len().min(1)..]
@@ -177,6 +178,7 @@ fn first_with_id<'a>(
 }
 
 /// The places of the models sections that manufacturers' lines lead to, in order.
+#[tactic(auto, using(crate::proofs::ListLemmas::filter_map_more))]
 fn models_places(source: &Source, makers: &[Line]) -> Result<Vec<usize>, OutOfMemory>
     ensures { IfOk result (λ v. v.items ≡ filter_map (models_place (string_in source.now.strings.now) source.now.inf.now) makers.now) }
 {
@@ -189,6 +191,7 @@ fn models_places(source: &Source, makers: &[Line]) -> Result<Vec<usize>, OutOfMe
 }
 
 /// The first line of the file among the model lines with the hardware id.
+#[tactic(auto, using(crate::proofs::ParamLaws::earliest_thinned))]
 pub fn model_of<'a>(
     source: &Source<'a>,
     makers: &[Line],

@@ -25,6 +25,7 @@ fn named_place(source: &Source, value: &Wide) -> Result<Option<usize>, OutOfMemo
 }
 
 /// Puts the places of the sections that values name behind the last one.
+#[tactic(auto, using(crate::proofs::ListLemmas::nothing_behind), unfolding(crate::specs::Parameters::named_places))]
 fn add_places(source: &Source, places: &mut Vec<usize>, values: &[Wide]) -> Result<(), OutOfMemory>
     ensures { OnOk result (places.new.items ≡ places.old.items ++ named_places (string_in source.now.strings.now) source.now.inf.now values.now) }
 {

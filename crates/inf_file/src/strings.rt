@@ -13,7 +13,7 @@ use nd_base::{OutOfMemory, Wide};
 use std::alloc::Global;
 use std::marker::Model;
 
-const PERCENT: u16 = 37;
+pub const PERCENT: u16 = 37;
 
 /// The strings under their keys.
 #[derive(Drop)]
@@ -37,7 +37,7 @@ fn is_number(key: &[u16]) -> bool
 }
 
 /// What stands before the first two percent signs, between them and behind them.
-fn next_key(text: &[u16]) -> Option<(&[u16], &[u16], &[u16])>
+pub fn next_key(text: &[u16]) -> Option<(&[u16], &[u16], &[u16])>
     ensures cases { MatchOption result (length (slice_split is_percent text.now) ≤ 2) (λ x. slice_split is_percent text.now ≡ x.0.now ∷ (x.1.now ∷ slice_split is_percent x.2.now)) }
     ensures shorter { IfSome result (λ x. length x.2.now < length text.now) }
 {
@@ -57,7 +57,7 @@ fn put_itself(out: &mut Wide, key: &[u16]) -> Result<(), OutOfMemory>
 
 impl Strings {
     /// The strings of the lines of `[Strings]`.
-    #[tactic(auto, unfolding(crate::specs::Strings::strings_of))]
+    #[tactic(auto, using(crate::proofs::StringLaws::no_strings_in), unfolding(crate::specs::Strings::strings_of))]
     pub fn of(alloc: Global, lines: &[Line]) -> Result<Strings, OutOfMemory>
         ensures { IfOk result (λ s. string_in s ≡ strings_of lines.now) }
     {
@@ -80,6 +80,7 @@ impl Strings {
     }
 
     /// Adds the string of a key, where the key is new.
+    #[tactic(auto, using(crate::proofs::StringLaws::or_string_old, crate::proofs::StringLaws::or_string_new))]
     fn add_string(&mut self, alloc: Global, key: &[u16], text: &[u16]) -> Result<(), OutOfMemory>
         ensures { OnOk result (string_in self.new ≡ or_string (string_in self.old) key.now text.now) }
     {
@@ -116,6 +117,7 @@ impl Strings {
     }
 
     /// A text with its keys replaced.
+    #[tactic(auto, using(crate::proofs::StringLaws::replaced_more, crate::proofs::StringLaws::replaced_end))]
     pub fn replaced(&self, alloc: Global, text: &[u16]) -> Result<Wide, OutOfMemory>
         ensures { IfOk result (λ out. out ≡ replaced (string_in self.now) text.now) }
     {
@@ -149,6 +151,7 @@ impl Strings {
     }
 
     /// Whether a text lacks a string.
+    #[tactic(auto, using(crate::proofs::StringLaws::lacks_more, crate::proofs::StringLaws::lacks_found, crate::proofs::StringLaws::lacks_last))]
     fn lacks_string(&self, alloc: Global, text: &[u16]) -> Result<bool, OutOfMemory>
         ensures { IfOk result (λ b. b ≡ lacks_string (string_in self.now) text.now) }
     {

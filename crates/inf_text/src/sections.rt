@@ -1,6 +1,7 @@
 //! The sections of an INF file.
 
-ghost use Rattle.std.specs.Prelude.{◌≡◌, ◌<◌, [], length, IfOk, OnOk, OnErr};
+ghost use Rattle.std.specs.Prelude.{ℕ, List, ◌≡◌, ◌<◌, ◌^◌, [], length, map, IfOk, OnOk, OnErr};
+ghost use Rattle.std.specs.Map.Iter.{ShowsInOrder, deref};
 ghost use Rattle.nd_base.specs.Results.{Gives};
 ghost use Rattle.inf_text.specs.Reading.{with_entry, with_statement, with_joined, sections_of_lines, IsWithin};
 
@@ -10,6 +11,7 @@ use crate::name::{Name, is_word};
 use crate::refusal::InfRefusal;
 use crate::statement::{Statement, read_statement};
 use indexmap::IndexMap;
+use indexmap::map::Keys;
 use nd_base::OutOfMemory;
 use std::alloc::Global;
 use std::marker::Model;
@@ -48,6 +50,16 @@ impl Inf {
         ensures { result ≡ place_named name.now self.now }
     {
         self.sections.get_index_of(name)
+    }
+
+    /// The names of the sections, in their order.
+    pub fn names(&self) -> Keys<'_, Name, Vec<Line>>
+        ensures rest { result ≡ map (λ s. s.name) self.now }
+        ensures len { length result ≡ length self.now }
+        ensures runs { ShowsInOrder (deref {X = List ℕ}) }
+        ensures fits { length self.now < 2 ^ 63 }
+    {
+        self.sections.keys()
     }
 
     /// A header: the section of the name goes on, or begins. Gives its place.

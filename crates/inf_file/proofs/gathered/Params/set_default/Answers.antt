@@ -3,7 +3,7 @@ use Rattle.inf_file.specs.Keyed.{params_in}
 use Rattle.inf_file.specs.Rows.{with_default}
 use Rattle.inf_file.specs.declared.param.Param.{Param}
 use Rattle.inf_file.specs.declared.param.ParamValue.{ParamValue}
-use Rattle.inf_file.proofs.ParamLists.{default-old, default-new}
+use Rattle.inf_file.proofs.ParamLists.{default_old}
 use Rattle.inf_file.proofs.gathered.Params.set_default.Goals as goal
 
 -- what a table's parameters are with a default of this name is what they are with the default that is given
@@ -13,10 +13,4 @@ same_param es ps name p n e = ap (λ (m : List ℕ). with_default (params_in es)
 pub returns-then-contains_key : goal.returns-then-contains_key
 returns-then-contains_key c =
     let es = c.self.inside.table.entries in
-    sym c.self.view_is ∙ default-old es c.new-name.result c.args.param.value (sym c.contains_key.ensures ∙ c.if-contains_key.true) ∙ same_param es c.args.self.now c.new-name.result c.args.param c.new-name.ensures c.self.view_is
-
-pub returns : goal.returns
-returns c =
-    let es = c.self.inside.table.entries in
-    ap (λ (fs : List (List ℕ × ParamValue)). params_in fs) c.in_ok-insert.ensures.entries ∙ default-new es c.new-name.result c.args.param.value (sym c.contains_key.ensures ∙ c.if-contains_key.false)
-    ∙ same_param es c.args.self.now c.new-name.result c.args.param c.new-name.ensures c.self.view_is
+    sym c.self.view_is ∙ default_old es c.new-name.result c.args.param.value (sym c.contains_key.ensures ∙ c.if-contains_key.true) ∙ same_param es c.args.self.now c.new-name.result c.args.param c.new-name.ensures c.self.view_is

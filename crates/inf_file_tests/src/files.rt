@@ -102,7 +102,7 @@ fn refusal_of(alloc: Global, inf: &Inf, id: &[u16]) -> Option<ParamRefusal> {
 pub fn refuses(alloc: Global, bytes: &[u8], id: &[u16], want: ParamRefusal) -> bool {
     match Inf::read(alloc, bytes) {
         Ok(inf) => refusal_of(alloc, &inf, id) == Some(want),
-        Err(_) => false,
+        Err(refusal) => refusal == InfRefusal::OutOfMemory,
     }
 }
 

@@ -29,6 +29,23 @@ fn refusals_in_order(rt: HostRuntime) {
     assert!(rt; gives(rt.alloc(), text, &A, ""));
 }
 
+/// A file without a model of `*A`. With any one allocation refused, it is refused as that.
+#[test]
+fn no_model_without_memory(rt: HostRuntime) {
+    let text =
+        b"[Version]\nSignature=$Windows NT$\n[Strings]\nM=Mo\nD=NTx86\nId=*B\n[Manufacturer]\nAcme=%M%d,%D%.5,%D%\n[Mod]\nInst,*A\n[mod.ntX86]\nInst,%Id%,%gone%,*C\n[Inst]\n".as_slice();
+    assert!(rt; refuses(rt.alloc(), text, &A, ParamRefusal::NoModel));
+}
+
+/// A file whose model of `*A` has no install section. With any one allocation refused, it is refused
+/// as that.
+#[test]
+fn no_install_without_memory(rt: HostRuntime) {
+    let text =
+        b"[Version]\nSignature=$Windows NT$\n[Strings]\nM=Mo\nD=NTx86\nId=a\n[Manufacturer]\nAcme=%M%d,%D%.5,%D%\n[Mod]\nInst,*B\n[mod.ntX86]\nIn%M%,%%,*%ID%\n[Inst]\n[In.NT]\n".as_slice();
+    assert!(rt; refuses(rt.alloc(), text, &A, ParamRefusal::NoInstall));
+}
+
 #[test]
 fn the_closest_section_first(rt: HostRuntime) {
     let text =

@@ -1,2 +1,3 @@
 pub mod Operations
-pub mod Spelled
+pub mod Jumps
+pub mod Templates

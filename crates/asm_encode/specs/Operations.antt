@@ -1,6 +1,5 @@
 -- What a mnemonic and its operands are as an instruction: Intel SDM volume 2, the pages of the instructions.
-use Rattle.std.specs.Prelude.{ℕ, ◌%◌, ◌^◌, Bool, true, false, ◌&&◌, ◌==◌, nat_lt, Option, Some, None, if◌then◌else◌}
-use Rattle.asm_lines.specs.declared.register.Register.{Register}
+use Rattle.std.specs.Prelude.{ℕ, ◌%◌, ◌^◌, Bool, true, false, ◌&&◌, ◌||◌, ◌==◌, nat_lt, Option, Some, None, if◌then◌else◌}
 use Rattle.asm_lines.specs.declared.argument.Index.{Index}
 use Rattle.asm_lines.specs.declared.mnemonic.Mnemonic.{Mnemonic}
 use Rattle.asm_lines.specs.declared.mnemonic.Mnemonic.TheVariants as mnemonics
@@ -12,7 +11,7 @@ use Rattle.ia32_decode.specs.declared.instruction.Operand.TheVariants as operand
 use Rattle.asm_encode.specs.declared.operation.Given.{Given}
 use Rattle.asm_encode.specs.declared.operation.Given.TheVariants as given
 use Rattle.asm_encode.specs.declared.operation.Operation.{Operation}
-use Rattle.asm_encode.specs.declared.forms.Built.{Built}
+use Rattle.asm_encode.specs.declared.forms.Form.{Form}
 
 -- ---- operands
 
@@ -22,31 +21,19 @@ low n = n % 2 ^ 32
 abbrev pub is_word : ℕ → Bool
 is_word n = nat_lt n (2 ^ 32)
 
--- an operand; of its values the low 32 bits
-abbrev pub operand_of : Given → Operand
-operand_of given.Absent = operands.Absent
-operand_of (given.Register r) = operands.Reg r.number
-operand_of (given.Number n) = operands.Imm
-operand_of (given.Memory width base None offset) = operands.Place base None 1 (low offset)
-operand_of (given.Memory width base (Some index) offset) = operands.Place base (Some index.register) index.scale (low offset)
-
-abbrev pub offset_of : Given → ℕ
-offset_of given.Absent = 0
-offset_of (given.Register r) = 0
-offset_of (given.Number n) = 0
-offset_of (given.Memory width base index offset) = offset
-
-abbrev pub number_of : Given → Option ℕ
-number_of given.Absent = None
-number_of (given.Register r) = None
-number_of (given.Number n) = Some n
-number_of (given.Memory width base index offset) = None
+-- an operand, with this offset where it is in memory
+abbrev pub operand_of : Given → ℕ → Operand
+operand_of given.Absent offset = operands.Absent
+operand_of (given.Register r) offset = operands.Reg r.number
+operand_of given.Value offset = operands.Imm
+operand_of (given.Memory width base None) offset = operands.Place base None 1 offset
+operand_of (given.Memory width base (Some index)) offset = operands.Place base (Some index.register) index.scale offset
 
 abbrev pub width_of : Given → Option ℕ
 width_of given.Absent = None
 width_of (given.Register r) = Some r.width
-width_of (given.Number n) = None
-width_of (given.Memory width base index offset) = Some width
+width_of given.Value = None
+width_of (given.Memory width base index) = Some width
 
 -- the width of an operation: that of its operands, or four bytes
 abbrev pub agreed : Option ℕ → Option ℕ → Option ℕ
@@ -55,100 +42,87 @@ agreed None (Some width) = Some width
 agreed (Some width) None = Some width
 agreed (Some width) (Some other) = if width == other then Some width else None
 
--- the one number among two operands, or 0
-abbrev pub only : Option ℕ → Option ℕ → Option ℕ
-only None None = Some 0
-only None (Some n) = Some n
-only (Some n) None = Some n
-only (Some n) (Some m) = None
+-- the width that both operands have
+abbrev pub both : Option ℕ → Option ℕ → Option ℕ
+both (Some width) (Some other) = if width == other then Some width else None
+both first second = None
 
 abbrev pub is_absent : Given → Bool
 is_absent given.Absent = true
 is_absent (given.Register r) = false
-is_absent (given.Number n) = false
-is_absent (given.Memory width base index offset) = false
+is_absent given.Value = false
+is_absent (given.Memory width base index) = false
+
+abbrev pub is_value : Given → Bool
+is_value given.Absent = false
+is_value (given.Register r) = false
+is_value given.Value = true
+is_value (given.Memory width base index) = false
 
 -- CL
 abbrev pub is_counter : Given → Bool
 is_counter given.Absent = false
 is_counter (given.Register r) = (r.width == 1) && (r.number == 1)
-is_counter (given.Number n) = false
-is_counter (given.Memory width base index offset) = false
+is_counter given.Value = false
+is_counter (given.Memory width base index) = false
 
--- ---- instructions
+-- a shift's count: a value or CL
+abbrev pub is_count : Given → Bool
+is_count g = is_value g || is_counter g
 
-unfoldable pub instr_of : Operation → Op → ℕ → ℕ → Instr
-instr_of o op width imm = record {
-  op = op;
-  width = width;
-  first = operand_of o.first;
-  second = operand_of o.second;
-  imm = low imm;
-  repeat = o.prefix.repeat;
-  lock = o.prefix.lock;
-}
+abbrev pub is_in_memory : Given → Bool
+is_in_memory given.Absent = false
+is_in_memory (given.Register r) = false
+is_in_memory given.Value = false
+is_in_memory (given.Memory width base index) = true
 
--- the operation at a width and with an immediate
-unfoldable pub shaped : Operation → Op → ℕ → ℕ → Built
-shaped o op width imm = record {
-  instruction = instr_of o op width imm;
-  fits = is_word imm && (is_word (offset_of o.first) && is_word (offset_of o.second));
-  is_jump = false;
-}
+-- the first or the second operand is in memory
+abbrev pub has_memory : Operation → Bool
+has_memory o = is_in_memory o.first || is_in_memory o.second
 
-abbrev pub and_shaped : Operation → Op → Option ℕ → Option ℕ → Option Built
-and_shaped o op (Some width) (Some imm) = Some (shaped o op width imm)
-and_shaped o op width imm = None
+-- ---- forms
 
-unfoldable pub alone : Operation → Op → ℕ → Option Built
-alone o op width = if is_absent o.first && (is_absent o.second && is_absent o.third) then Some (shaped o op width 0) else None
+abbrev pub plain : Op → ℕ → Form
+plain op width = record { op = op; width = width; is_jump = false }
 
-unfoldable pub on : Operation → Op → Option Built
-on o op = if is_absent o.third then and_shaped o op (agreed (width_of o.first) (width_of o.second)) (only (number_of o.first) (number_of o.second)) else None
+abbrev pub at_width : Op → Option ℕ → Option Form
+at_width op None = None
+at_width op (Some width) = Some (plain op width)
 
--- a shift's count: a number, or CL, which is no immediate
-abbrev pub count_of : Given → Option ℕ
-count_of given.Absent = None
-count_of (given.Register r) = if is_counter (given.Register r) then Some 0 else None
-count_of (given.Number n) = Some n
-count_of (given.Memory width base index offset) = None
+unfoldable pub alone : Operation → Op → ℕ → Option Form
+alone o op width = if is_absent o.first && (is_absent o.second && is_absent o.third) then Some (plain op width) else None
 
-unfoldable pub shift : Operation → Op → Option Built
-shift o op = if is_absent o.third then and_shaped o op (width_of o.first) (count_of o.second) else None
+unfoldable pub on : Operation → Op → Option Form
+on o op = if is_absent o.third then at_width op (agreed (width_of o.first) (width_of o.second)) else None
 
-unfoldable pub double_shift : Operation → Op → Op → Option Built
-double_shift o by_counter by_number = and_shaped o (if is_counter o.third then by_counter else by_number) (agreed (width_of o.first) (width_of o.second)) (count_of o.third)
+unfoldable pub shift : Operation → Op → Option Form
+shift o op = if is_absent o.third && is_count o.second then at_width op (width_of o.first) else None
 
-abbrev pub with_factor : Operation → Option ℕ → Option Built
-with_factor o None = if is_absent o.second then on o ops.Imul else on o ops.ImulRegister
-with_factor o (Some n) = and_shaped o ops.ImulImmediate (agreed (width_of o.first) (width_of o.second)) (Some n)
+unfoldable pub double_shift : Operation → Op → Op → Option Form
+double_shift o by_counter by_number = if is_count o.third then at_width (if is_counter o.third then by_counter else by_number) (both (width_of o.first) (width_of o.second)) else None
 
-unfoldable pub multiply : Operation → Option Built
-multiply o = with_factor o (number_of o.third)
+unfoldable pub multiply : Operation → Option Form
+multiply o =
+    if is_value o.third then at_width ops.ImulImmediate (both (width_of o.first) (width_of o.second))
+    else (if is_absent o.second then on o ops.Imul else on o ops.ImulRegister)
 
 abbrev pub from_width : Op → Op → Option ℕ → Option Op
 from_width from_byte from_word None = None
 from_width from_byte from_word (Some width) = if width == 1 then Some from_byte else (if width == 2 then Some from_word else None)
 
-abbrev pub and_extended : Operation → Option Op → Option Built
-and_extended o None = None
-and_extended o (Some op) = and_shaped o op (width_of o.first) (Some 0)
+abbrev pub extended : Option Op → Option ℕ → Option Form
+extended None width = None
+extended (Some op) width = at_width op width
 
-unfoldable pub extend : Operation → Op → Op → Option Built
-extend o from_byte from_word = if is_absent o.third then and_extended o (from_width from_byte from_word (width_of o.second)) else None
+unfoldable pub extend : Operation → Op → Op → Option Form
+extend o from_byte from_word = if is_absent o.third then extended (from_width from_byte from_word (width_of o.second)) (width_of o.first) else None
 
--- a jump: its immediate is still the address that it leads to
-abbrev pub jump_of : Operation → Op → ℕ → Built
-jump_of o op target = record { instruction = instr_of o op 4 target; fits = is_word target; is_jump = true }
+unfoldable pub to : Operation → Op → Option Form
+to o op =
+    if is_value o.first then (if is_absent o.second && is_absent o.third then Some (record { op = op; width = 4; is_jump = true }) else None)
+    else on o op
 
-abbrev pub to_number : Operation → Op → Option ℕ → Option Built
-to_number o op None = on o op
-to_number o op (Some target) = if is_absent o.second && is_absent o.third then Some (jump_of o op target) else None
-
-unfoldable pub to : Operation → Op → Option Built
-to o op = to_number o op (number_of o.first)
-
-abbrev pub by_mnemonic : Operation → Mnemonic → Option Built
+abbrev pub by_mnemonic : Operation → Mnemonic → Option Form
 by_mnemonic o (mnemonics.Alone op width) = alone o op width
 by_mnemonic o (mnemonics.On op) = on o op
 by_mnemonic o (mnemonics.Shift op) = shift o op
@@ -158,5 +132,19 @@ by_mnemonic o (mnemonics.Extend from_byte from_word) = extend o from_byte from_w
 by_mnemonic o (mnemonics.To op) = to o op
 
 -- what an operation is: none where its operands are of no form of its mnemonic
-unfoldable pub form_of : Operation → Option Built
+unfoldable pub form_of : Operation → Option Form
 form_of o = by_mnemonic o o.mnemonic
+
+-- ---- instructions
+
+-- the operation with numbers, as an instruction of a form
+unfoldable pub instruction_of : Operation → Form → ℕ → ℕ → Instr
+instruction_of o form value offset = record {
+  op = form.op;
+  width = form.width;
+  first = operand_of o.first offset;
+  second = operand_of o.second offset;
+  imm = value;
+  repeat = o.prefix.repeat;
+  lock = o.prefix.lock;
+}

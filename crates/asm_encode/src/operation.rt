@@ -1,28 +1,27 @@
-//! Operations: a mnemonic and operands whose values are numbers.
+//! Operations: a mnemonic and operands, without their numbers.
 
-ghost use Rattle.std.specs.Prelude.{◌≡◌, ◌<◌, ◌^◌};
-ghost use Rattle.asm_encode.specs.Operations.{low, is_word, operand_of, offset_of, number_of, width_of, agreed, only, is_absent, is_counter};
+ghost use Rattle.std.specs.Prelude.{◌≡◌};
+ghost use Rattle.asm_encode.specs.Operations.{low, is_word, operand_of, width_of, agreed, both, is_absent, is_value, is_counter, is_count, is_in_memory, has_memory};
 
 use asm_lines::{Index, Mnemonic, Prefix, Register};
 use ia32_decode::Operand;
 
-/// An operand whose values are numbers.
+/// An operand. Its number, if it has one, is beside the operation: at most one operand is a value, and
+/// at most one is in memory.
 #[derive(Clone, Copy)]
 pub enum Given {
     Absent,
     Register(Register),
-    Number(u64),
-    /// Memory of so many bytes.
+    Value,
+    /// Memory of so many bytes, at an offset.
     Memory {
         width: u8,
         base: Option<u8>,
         index: Option<Index>,
-        offset: u64,
     },
 }
 
-/// An instruction as it is written, with numbers for its values. The address that a jump leads to is
-/// a number.
+/// An instruction as it is written, without its numbers.
 #[derive(Clone, Copy)]
 pub struct Operation {
     pub prefix: Prefix,
@@ -45,55 +44,34 @@ pub fn is_word(number: u64) -> bool
     number < 0x1_0000_0000
 }
 
-/// The operand of an instruction; of its values the low 32 bits.
-pub fn operand_of(given: Given) -> Operand
-    ensures { result ≡ operand_of given }
+/// The operand of an instruction, with this offset where it is in memory.
+pub fn operand_of(given: Given, offset: u32) -> Operand
+    ensures { result ≡ operand_of given offset }
 {
     match given {
         Given::Absent => Operand::Absent,
         Given::Register(register) => Operand::Reg(register.number),
-        Given::Number(_) => Operand::Imm,
+        Given::Value => Operand::Imm,
         Given::Memory {
             base,
             index: None,
-            offset,
             ..
         } => Operand::Place {
             base,
             index: None,
             scale: 1,
-            offset: low(offset),
+            offset,
         },
         Given::Memory {
             base,
             index: Some(index),
-            offset,
             ..
         } => Operand::Place {
             base,
             index: Some(index.register),
             scale: index.scale,
-            offset: low(offset),
+            offset,
         },
-    }
-}
-
-/// The offset of an operand in memory, 0 of another.
-pub fn offset_of(given: Given) -> u64
-    ensures { result ≡ offset_of given }
-{
-    match given {
-        Given::Memory { offset, .. } => offset,
-        _ => 0,
-    }
-}
-
-pub fn number_of(given: Given) -> Option<u64>
-    ensures { result ≡ number_of given }
-{
-    match given {
-        Given::Number(number) => Some(number),
-        _ => None,
     }
 }
 
@@ -120,15 +98,13 @@ pub fn agreed(first: Option<u8>, second: Option<u8>) -> Option<u8>
     }
 }
 
-/// The one number among two operands, or 0.
-pub fn only(first: Option<u64>, second: Option<u64>) -> Option<u64>
-    ensures { result ≡ only first second }
+/// The width that both operands have.
+pub fn both(first: Option<u8>, second: Option<u8>) -> Option<u8>
+    ensures { result ≡ both first second }
 {
     match (first, second) {
-        (None, None) => Some(0),
-        (Some(number), None) => Some(number),
-        (None, Some(number)) => Some(number),
-        (Some(_), Some(_)) => None,
+        (Some(width), Some(other)) if width == other => Some(width),
+        _ => None,
     }
 }
 
@@ -136,6 +112,12 @@ pub fn is_absent(given: Given) -> bool
     ensures { result ≡ is_absent given }
 {
     matches!(given, Given::Absent)
+}
+
+pub fn is_value(given: Given) -> bool
+    ensures { result ≡ is_value given }
+{
+    matches!(given, Given::Value)
 }
 
 /// Whether the operand is CL.
@@ -146,4 +128,24 @@ pub fn is_counter(given: Given) -> bool
         Given::Register(register) => register.width == 1 && register.number == 1,
         _ => false,
     }
+}
+
+/// Whether the operand is a shift's count: a value or CL.
+pub fn is_count(given: Given) -> bool
+    ensures { result ≡ is_count given }
+{
+    is_value(given) || is_counter(given)
+}
+
+pub fn is_in_memory(given: Given) -> bool
+    ensures { result ≡ is_in_memory given }
+{
+    matches!(given, Given::Memory { .. })
+}
+
+/// Whether the first or the second operand is in memory.
+pub fn has_memory(operation: Operation) -> bool
+    ensures { result ≡ has_memory operation }
+{
+    is_in_memory(operation.first) || is_in_memory(operation.second)
 }

@@ -6,9 +6,9 @@ use Rattle.nd_mem.specs.declared.Rights.{Rights}
 use Rattle.pe_image.specs.File.{section_header}
 use Rattle.pe_image.specs.Image.{SectionPart, ImportParts, ImageParts}
 use Rattle.pe_image.specs.Grammar.{IsImage, section_table_offset}
-use Rattle.sys_forge.specs.Tables.{row_of}
+use Rattle.line_bytes.specs.Tables.{row_of}
 use Rattle.sys_forge.specs.Whole.{IsAssembled, IsUnassembled}
-use Rattle.sys_forge.specs.declared.piece.Tables.{Tables}
+use Rattle.line_bytes.specs.declared.piece.Tables.{Tables}
 use Rattle.sys_forge.specs.declared.refusal.ForgeRefusal.{ForgeRefusal}
 use Rattle.sys_forge.specs.declared.refusal.ForgeRefusal.TheVariants as refusals
 

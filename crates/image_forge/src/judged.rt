@@ -9,10 +9,11 @@ ghost use Rattle.image_forge.specs.Forged.{all_rights, HasText, HasRawText, IsIm
 use crate::headers::IMAGE_BASE;
 use crate::section::{DLL, SECTION_RVA};
 use byteorder::{ByteOrder, LittleEndian};
+use line_bytes::Tables;
 use nd_base::OutOfMemory;
 use pe_image::{Image, Import, PeRefusal, Section};
 use std::alloc::Global;
-use sys_forge::{Assembled, Tables};
+use sys_forge::Assembled;
 
 /// Where the DOS header has the offset of the signature.
 const SIGNATURE_OFFSET: usize = 0x3C;

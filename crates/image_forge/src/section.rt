@@ -4,9 +4,10 @@
 ghost use Rattle.std.specs.Prelude.{◌≤◌, length};
 
 use crate::numbers::{align, put_halves, put_words};
+use line_bytes::Table;
 use nd_base::{Bytes, OutOfMemory};
 use std::alloc::Global;
-use sys_forge::{Assembled, Table};
+use sys_forge::Assembled;
 
 /// Where the section begins in the image.
 pub const SECTION_RVA: u32 = 0x1000;

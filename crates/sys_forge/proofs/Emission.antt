@@ -1,7 +1,7 @@
 -- One line more behind those that have their bytes.
 use Rattle.std.proofs.Common.{◌≡◌, ℕ, ◌+◌, List, [], ◌∷◌, ◌++◌, length, refl, sym, ap, subst, ◌∙◌, append_assoc, append-nil, length-append, add_assoc, add-zero, zero-add}
 use Rattle.sys_forge.specs.Assembly.{Says, PutsBy, none_met}
-use Rattle.sys_forge.specs.declared.piece.Met.{Met}
+use Rattle.line_bytes.specs.declared.piece.Met.{Met}
 
 -- the lines in front of what is left have their bytes
 pub record IsSoFar (L : Says) (all left : List (List ℕ)) (out : List ℕ) (met : Met) (number : ℕ) : Type 0 where
@@ -14,7 +14,7 @@ pub begun : (L : Says) (all : List (List ℕ)) (out : List ℕ) → out ≡ [] �
 unfolding PutsBy
 begun L all out none = record { front = []; parts = refl; place = refl; put = (none, refl) }
 
-puts_more : (L : Says) (done : ℕ) (met last next : Met) (ls : List (List ℕ)) (line bytes piece : List ℕ) → PutsBy L done met ls bytes last → L last (0x80101000 + (done + length bytes)) line piece next → PutsBy L done met (ls ++ line ∷ []) (bytes ++ piece) next
+pub puts_more : (L : Says) (done : ℕ) (met last next : Met) (ls : List (List ℕ)) (line bytes piece : List ℕ) → PutsBy L done met ls bytes last → L last (0x80101000 + (done + length bytes)) line piece next → PutsBy L done met (ls ++ line ∷ []) (bytes ++ piece) next
 unfolding PutsBy
 puts_more L done met last next [] line bytes piece h l =
     let none : bytes ≡ [] = h.0 in

@@ -1,4 +1,5 @@
-pub mod OctetLaws
-pub mod TableLaws
 pub mod Emission
 pub mod Differing
+pub mod RowLaws
+pub mod Settling
+pub mod Planning

@@ -1,12 +1,13 @@
 -- What it is that bytes are those of a source. (The project's own: docs/ASSEMBLER.md.)
-use Rattle.std.specs.Prelude.{ℕ, ◌≡◌, ◌+◌, ◌*◌, ◌≤◌, ◌⊎◌, List, [], ◌∷◌, ◌++◌, length, replicate}
+use Rattle.std.specs.Prelude.{ℕ, ◌≡◌, ◌+◌, ◌*◌, ◌≤◌, true, List, [], ◌∷◌, ◌++◌, length, replicate}
 use Rattle.std.specs.Str.Lines.{lines}
-use Rattle.sys_forge.specs.Pieces.{IsLine}
-use Rattle.sys_forge.specs.Refusals.{IsRefusal}
-use Rattle.sys_forge.specs.declared.piece.Tables.{Tables}
-use Rattle.sys_forge.specs.declared.piece.Met.{Met}
-use Rattle.sys_forge.specs.declared.refusal.Refused.{Refused}
-use Rattle.sys_forge.specs.declared.refusal.Refused.TheVariants as refused
+use Rattle.line_bytes.specs.Pieces.{IsLine}
+use Rattle.line_bytes.specs.Refusals.{Why, IsRefusal}
+use Rattle.sys_forge.specs.Standing.{has_label, IsSettled}
+use Rattle.line_bytes.specs.declared.piece.Tables.{Tables}
+use Rattle.line_bytes.specs.declared.piece.Met.{Met}
+use Rattle.line_bytes.specs.declared.refused.Refused.{Refused}
+use Rattle.line_bytes.specs.declared.refused.Refused.TheVariants as refused
 use Rattle.sys_forge.specs.declared.refusal.ForgeRefusal.{ForgeRefusal}
 use Rattle.sys_forge.specs.declared.refusal.ForgeRefusal.TheVariants as refusals
 
@@ -41,13 +42,29 @@ pub record IsEmitted (t : Tables) (ls : List (List ℕ)) (bytes : List ℕ) : Ty
 -- and behind them stands a zero word for each import
 pub record IsAssembly (text out : List ℕ) : Type 0 where
   pub tables : Tables
+  pub settled : IsSettled text tables
   pub bytes : List ℕ
   pub emitted : IsEmitted tables (lines text) bytes
   pub words : out ≡ bytes ++ replicate (4 * length tables.imports) 0
 
--- those in front have bytes, and the line does not
+-- ---- why there are no such bytes
+
+-- a label: a line in front is the same label
+abbrev pub IsRepeated : List (List ℕ) → Why
+IsRepeated front name refused.OutOfMemory = Unit {0}
+IsRepeated front name refused.Line = has_label name front ≡ true
+IsRepeated front name refused.Range = ⊥
+
+-- the call of an import: never but for want of memory
+abbrev pub IsWanting : Why
+IsWanting name refused.OutOfMemory = Unit {0}
+IsWanting name refused.Line = ⊥
+IsWanting name refused.Range = ⊥
+
+-- the lines in front have their bytes, and the line has none, where labels stand by the lines in front of them
 pub record IsRefusedAt (text : List ℕ) (number : ℕ) (why : Refused) : Type 0 where
   pub tables : Tables
+  pub settled : IsSettled text tables
   pub front : List (List ℕ)
   pub line : List ℕ
   pub back : List (List ℕ)
@@ -56,17 +73,9 @@ pub record IsRefusedAt (text : List ℕ) (number : ℕ) (why : Refused) : Type 0
   pub bytes : List ℕ
   pub met : Met
   pub put : Puts tables 0 none_met front bytes met
-  pub refused : IsRefusal tables met (length bytes) line why
-
--- all lines have bytes with the tables, but the tables do not fit them
-pub record IsUnsettled (text : List ℕ) : Type 0 where
-  pub tables : Tables
-  pub bytes : List ℕ
-  pub met : Met
-  pub put : Puts tables 0 none_met (lines text) bytes met
-  pub apart : IsWhole tables met (length bytes) → ⊥
+  pub refused : IsRefusal (IsRepeated front) IsWanting tables met (length bytes) line why
 
 abbrev pub IsRefusedText : List ℕ → ForgeRefusal → Type 0
 IsRefusedText text refusals.OutOfMemory = Unit {0}
 IsRefusedText text (refusals.Line n) = IsRefusedAt text n refused.Line
-IsRefusedText text (refusals.Range n) = IsRefusedAt text n refused.Range ⊎ IsUnsettled text
+IsRefusedText text (refusals.Range n) = IsRefusedAt text n refused.Range

@@ -1,9 +1,5 @@
-pub mod Tables
-pub mod TableRows
-pub mod Values
 pub mod Reasons
-pub mod Pieces
-pub mod Refusals
+pub mod Standing
 pub mod Assembly
 pub mod Moved
 pub mod Places

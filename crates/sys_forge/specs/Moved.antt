@@ -8,10 +8,10 @@ use Rattle.asm_lines.specs.Statements.{Statement}
 use Rattle.asm_lines.specs.Lines.{Content, Nothing, Label, Octets, Word, Import, Instruction, line_content}
 use Rattle.asm_lines.specs.declared.mnemonic.Mnemonic.{Mnemonic}
 use Rattle.asm_lines.specs.declared.mnemonic.Mnemonic.TheVariants as mnemonics
-use Rattle.sys_forge.specs.Pieces.{IsPiece}
+use Rattle.line_bytes.specs.Pieces.{IsPiece}
 use Rattle.sys_forge.specs.Assembly.{PutsBy, none_met}
-use Rattle.sys_forge.specs.declared.piece.Tables.{Tables}
-use Rattle.sys_forge.specs.declared.piece.Met.{Met}
+use Rattle.line_bytes.specs.declared.piece.Tables.{Tables}
+use Rattle.line_bytes.specs.declared.piece.Met.{Met}
 
 -- ---- jumps
 

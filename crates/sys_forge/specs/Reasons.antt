@@ -1,9 +1,7 @@
 -- Refusals of lines as refusals of sources.
 use Rattle.std.specs.Prelude.{ℕ}
-use Rattle.asm_encode.specs.declared.spelling.Fault.{Fault}
-use Rattle.asm_encode.specs.declared.spelling.Fault.TheVariants as faults
-use Rattle.sys_forge.specs.declared.refusal.Refused.{Refused}
-use Rattle.sys_forge.specs.declared.refusal.Refused.TheVariants as refused
+use Rattle.line_bytes.specs.declared.refused.Refused.{Refused}
+use Rattle.line_bytes.specs.declared.refused.Refused.TheVariants as refused
 use Rattle.sys_forge.specs.declared.refusal.ForgeRefusal.{ForgeRefusal}
 use Rattle.sys_forge.specs.declared.refusal.ForgeRefusal.TheVariants as refusals
 
@@ -12,7 +10,3 @@ abbrev pub refusal_at : Refused → ℕ → ForgeRefusal
 refusal_at refused.OutOfMemory line = refusals.OutOfMemory
 refusal_at refused.Line line = refusals.Line line
 refusal_at refused.Range line = refusals.Range line
-
-abbrev pub refused_of : Fault → Refused
-refused_of faults.NoForm = refused.Line
-refused_of faults.Range = refused.Range

@@ -2,13 +2,15 @@
 use Rattle.std.specs.Prelude.{ℕ, ◌≡◌, ◌+◌, ◌*◌, ◌⊎◌, List, ◌++◌, length, replicate}
 use Rattle.std.specs.Str.Lines.{lines}
 use Rattle.sys_forge.specs.Assembly.{IsEmitted, IsRefusedText}
+use Rattle.sys_forge.specs.Standing.{IsSettled}
 use Rattle.sys_forge.specs.Moved.{AreAddresses}
-use Rattle.sys_forge.specs.declared.piece.Tables.{Tables}
+use Rattle.line_bytes.specs.declared.piece.Tables.{Tables}
 use Rattle.sys_forge.specs.declared.refusal.ForgeRefusal.{ForgeRefusal}
 use Rattle.sys_forge.specs.declared.refusal.ForgeRefusal.TheVariants as refusals
 
 -- the bytes of the lines, behind them a zero word for each import, and the places of the words among the lines' bytes that hold addresses
 pub record IsAssembled (text : List ℕ) (t : Tables) (out places : List ℕ) : Type 0 where
+  pub settled : IsSettled text t
   pub bytes : List ℕ
   pub emitted : IsEmitted t (lines text) bytes
   pub words : out ≡ bytes ++ replicate (4 * length t.imports) 0

@@ -1,32 +1,29 @@
 //! Source as bytes.
 
-ghost use Rattle.std.specs.Prelude.{◌≡◌, ◌++◌, ◌+◌, ◌≤◌, ◌↔◌, length, IsTrue, IfOk, IfErr, OnOk, replicate};
+ghost use Rattle.std.specs.Prelude.{◌≡◌, ◌++◌, ◌+◌, ◌≤◌, length, IfOk, IfErr, OnOk, replicate};
 ghost use Rattle.std.specs.Str.Lines.{lines};
-ghost use Rattle.sys_forge.specs.Assembly.{IsWhole, IsEmitted, IsAssembly, IsRefusedText};
+ghost use Rattle.line_bytes.specs.Putting.{AreWide};
+ghost use Rattle.sys_forge.specs.Standing.{none_laid, laid, AreMade, IsSettled};
+ghost use Rattle.sys_forge.specs.Assembly.{IsEmitted, IsAssembly, IsRefusedText};
 ghost use Rattle.sys_forge.specs.Moved.{AreAddresses};
 ghost use Rattle.sys_forge.specs.Whole.{IsAssembled, IsUnplaced, IsUnassembled};
 
 use crate::moved::put_further;
-use crate::piece::{Met, TEXT, Tables, put_line};
 use crate::places::places;
 use crate::plan::{Layouts, plan};
-use crate::refusal::{ForgeRefusal, Refused};
+use crate::refusal::{ForgeRefusal, refusal_at};
+use line_bytes::{Met, Refused, Tables, put_line};
 use nd_base::words::next_line;
 use nd_base::{Bytes, OutOfMemory};
 use std::alloc::Global;
 
-/// Whether all labels and imports are met, and the words stand behind the text.
-fn is_whole(tables: &Tables, met: Met, size: usize) -> bool
-    requires { size ≤ 0x3FF000 }
-    ensures { IsTrue result ↔ IsWhole tables.now met size }
-{
-    met.labels == tables.labels.len()
-        && (met.imports == tables.imports.len() && tables.words == TEXT + size as u32)
-}
-
 /// The bytes of the lines of a source.
-fn emitted(alloc: Global, tables: &Tables, text: &[u8]) -> Result<Bytes, ForgeRefusal>
-    ensures ok { IfOk result (λ bytes. IsEmitted tables.now (lines text.now) bytes) }
+fn emitted(alloc: Global, plan: &Layouts, text: &[u8]) -> Result<Bytes, ForgeRefusal>
+    requires made { AreMade (lines text.now) plan.now.made.items }
+    requires laid { plan.now.tables ≡ laid none_laid (lines text.now) plan.now.made.items }
+    requires low { plan.now.tables.words ≤ 0x80500000 }
+    requires wide { AreWide plan.now.tables.labels }
+    ensures ok { IfOk result (λ bytes. IsEmitted plan.now.tables (lines text.now) bytes) }
     ensures err { IfErr result (λ why. IsRefusedText text.now why) }
 {
     let mut out = Bytes::new(alloc);
@@ -36,20 +33,21 @@ fn emitted(alloc: Global, tables: &Tables, text: &[u8]) -> Result<Bytes, ForgeRe
     };
     let mut number = 1u64;
     let mut rest = text;
+    let mut left = plan.made.as_slice();
     while !rest.is_empty() {
         let (line, others) = next_line(rest);
-        met = match put_line(&mut out, tables, met, line) {
+        let Some((made, behind)) = left.split_first() else {
+            return Err(ForgeRefusal::OutOfMemory);
+        };
+        met = match put_line(&mut out, &plan.tables, met, line, made) {
             Ok(next) => next,
-            Err(refused) => return Err(refused.at(number)),
+            Err(refused) => return Err(refusal_at(refused, number)),
         };
         number += 1;
         rest = others;
+        left = behind;
     }
-    if is_whole(tables, met, out.len()) {
-        Ok(out)
-    } else {
-        Err(ForgeRefusal::Range(number))
-    }
+    Ok(out)
 }
 
 /// Puts zero bytes behind others.
@@ -76,7 +74,10 @@ pub fn line_count(text: &[u8]) -> u64
 
 /// The bytes of the lines of a source, and where labels and words stand.
 fn laid(alloc: Global, text: &[u8]) -> Result<(Layouts, Bytes), ForgeRefusal>
+    ensures made { IfOk result (λ laid. AreMade (lines text.now) laid.0.made.items) }
+    ensures settled { IfOk result (λ laid. IsSettled text.now laid.0.tables) }
     ensures ok { IfOk result (λ laid. IsEmitted laid.0.tables (lines text.now) laid.1) }
+    ensures wide { IfOk result (λ laid. AreWide laid.0.tables.labels × AreWide laid.0.moved.labels) }
     ensures moved { IfOk result (λ laid. laid.0.moved.words ≡ laid.0.tables.words + 0x01010101) }
     ensures err { IfErr result (λ why. IsRefusedText text.now why) }
 {
@@ -84,7 +85,7 @@ fn laid(alloc: Global, text: &[u8]) -> Result<(Layouts, Bytes), ForgeRefusal>
         Ok(plan) => plan,
         Err(_) => return Err(ForgeRefusal::OutOfMemory),
     };
-    let bytes = emitted(alloc, &plan.tables, text)?;
+    let bytes = emitted(alloc, &plan, text)?;
     Ok((plan, bytes))
 }
 
@@ -95,13 +96,15 @@ fn address_places(
     text: &[u8],
     bytes: &[u8],
 ) -> Result<Vec<u32>, ForgeRefusal>
+    requires made { AreMade (lines text.now) plan.now.made.items }
+    requires wide { AreWide plan.now.tables.labels × AreWide plan.now.moved.labels }
     requires moved { plan.now.moved.words ≡ plan.now.tables.words + 0x01010101 }
     requires room { length bytes.now ≤ 0x3FF000 }
     ensures ok { IfOk result (λ found. AreAddresses plan.now.tables (lines text.now) bytes.now found.items) }
     ensures err { IfErr result (λ why. IsUnplaced text.now why) }
 {
     let behind = ForgeRefusal::Range(line_count(text) + 1);
-    let further = match put_further(alloc, &plan.tables, &plan.moved, text) {
+    let further = match put_further(alloc, &plan.tables, &plan.moved, plan.made.as_slice(), text) {
         Ok(further) => further,
         Err(Refused::OutOfMemory) => return Err(ForgeRefusal::OutOfMemory),
         Err(_) => return Err(behind),
@@ -135,7 +138,7 @@ pub fn assemble_with_places(alloc: Global, text: &[u8]) -> Result<Assembled, For
         Ok(places) => places,
         Err(why) => return Err(why),
     };
-    let Layouts { tables, moved: _ } = plan;
+    let Layouts { tables, .. } = plan;
     match put_zeros(alloc, &mut bytes, 4 * tables.imports.len()) {
         Ok(()) => Ok(Assembled {
             tables,

@@ -9,15 +9,9 @@
 
 mod assembly;
 mod moved;
-mod octets;
-mod piece;
 mod places;
 mod plan;
 mod refusal;
-mod table;
-mod values;
 
 pub use assembly::{Assembled, assemble, assemble_with_places, line_count};
-pub use piece::Tables;
 pub use refusal::ForgeRefusal;
-pub use table::Table;

@@ -5,7 +5,7 @@ ghost use Rattle.std.specs.Str.{bytes_eq};
 ghost use Rattle.sys_forge.specs.Moved.{word_moved, with_words};
 ghost use Rattle.sys_forge.specs.Places.{noted, IsStep};
 
-use crate::piece::DISTANCE;
+use crate::moved::DISTANCE;
 use byteorder::{ByteOrder, LittleEndian};
 use nd_base::OutOfMemory;
 use std::alloc::Global;

@@ -1,10 +1,9 @@
 //! Why a source is not assembled.
 
 ghost use Rattle.std.specs.Prelude.{◌≡◌};
-ghost use Rattle.sys_forge.specs.declared.refusal.Refused.TheVariants.{OutOfMemory};
-ghost use Rattle.sys_forge.specs.Reasons.{refusal_at, refused_of};
+ghost use Rattle.sys_forge.specs.Reasons.{refusal_at};
 
-use asm_encode::Fault;
+use line_bytes::Refused;
 use thiserror::Error;
 
 /// Why a source is not assembled. Lines are numbered from 1.
@@ -22,41 +21,13 @@ pub enum ForgeRefusal {
     Range(u64),
 }
 
-/// Why a line is not assembled.
-#[derive(Clone, Copy)]
-pub enum Refused {
-    OutOfMemory,
-    Line,
-    Range,
-}
-
-impl From<nd_base::OutOfMemory> for Refused {
-    ghost from_gives = { λ _ e. e ≡ OutOfMemory };
-
-    fn from(_error: nd_base::OutOfMemory) -> Refused {
-        Refused::OutOfMemory
-    }
-}
-
-impl Refused {
-    /// The refusal of the line of a number.
-    pub fn at(self, line: u64) -> ForgeRefusal
-        ensures { result ≡ refusal_at self line }
-    {
-        match self {
-            Refused::OutOfMemory => ForgeRefusal::OutOfMemory,
-            Refused::Line => ForgeRefusal::Line(line),
-            Refused::Range => ForgeRefusal::Range(line),
-        }
-    }
-
-    /// Why a line whose instruction is not spelled is not assembled.
-    pub fn of(fault: Fault) -> Refused
-        ensures { result ≡ refused_of fault }
-    {
-        match fault {
-            Fault::NoForm => Refused::Line,
-            Fault::Range => Refused::Range,
-        }
+/// The refusal of the line of a number.
+pub fn refusal_at(refused: Refused, line: u64) -> ForgeRefusal
+    ensures { result ≡ refusal_at refused line }
+{
+    match refused {
+        Refused::OutOfMemory => ForgeRefusal::OutOfMemory,
+        Refused::Line => ForgeRefusal::Line(line),
+        Refused::Range => ForgeRefusal::Range(line),
     }
 }

@@ -1,5 +1,5 @@
 use Rattle.std.proofs.Common.{ℕ, List, Option, IfSome, sym, ap, subst, ◌∙◌}
-use Rattle.sys_forge.specs.Tables.{row_of}
+use Rattle.line_bytes.specs.Tables.{row_of}
 use Rattle.sys_forge.specs.Whole.{IsAssembled}
 use Rattle.image_forge.specs.Forged.{IsFileOf}
 use Rattle.image_forge.proofs.forge.forge_image.Goals as goal

@@ -1,0 +1,4 @@
+pub mod Moved
+pub mod Places
+pub mod Faults
+pub mod Behind

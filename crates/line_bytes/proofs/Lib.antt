@@ -1,0 +1,3 @@
+pub mod OctetLaws
+pub mod TableLaws
+pub mod PutLaws

@@ -1,0 +1,11 @@
+use Rattle.std.proofs.Common.{rules, tests, ◌&&◌, nat_lt}
+use Rattle.std.proofs.lemmas.Iterator.Consumers.{YieldsList-from_deque}
+use Rattle.std.proofs.lemmas.Iterator.Search.{find_from_yields_List}
+use Rattle.dpc_timer.specs.declared.timer.Turn.{Turn}
+use Rattle.adapter_timers.specs.Due.{is_living}
+use Rattle.adapter_timers.proofs.due.first_above.Goals as goal
+
+pub returns : goal.returns
+returns c =
+    let e = find_from_yields_List (λ (x : Turn). nat_lt c.args.now x.moment && is_living c.args.timers.now c.args.living.now x.address) _ _ c.find.result c.find.ensures.ran (YieldsList-from_deque c.args.turns.now.items cc) (λ x b q k. search (rules, tests)) in
+    cc

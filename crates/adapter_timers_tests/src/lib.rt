@@ -1,0 +1,5 @@
+//! Tests of adapter_timers.
+#![tactic(auto)]
+
+#[cfg(test)]
+mod tests;

@@ -1,0 +1,4 @@
+pub mod Budgets
+pub mod Instructions
+pub mod Returns
+pub mod Standing

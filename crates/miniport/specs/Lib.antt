@@ -1,0 +1,5 @@
+pub mod Charges
+pub mod Free
+pub mod Replies
+pub mod Steps
+pub mod Waiting

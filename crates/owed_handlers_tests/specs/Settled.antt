@@ -1,0 +1,37 @@
+-- A run of two adapters whose interrupt lines are at level 18, and of which nothing was charged.
+use Rattle.std.specs.Prelude.{◌≡◌, false, [], ◌∷◌, length}
+use Rattle.pe_image.specs.Image.{ImageParts}
+use Rattle.guest_world.specs.declared.world.World.{World}
+use Rattle.owner_machine.specs.State.{Owner}
+use Rattle.legal_run.specs.Guest.{entry_point}
+use Rattle.legal_run.specs.State.{Given, Inputs, start}
+use Rattle.miniport_state.specs.Views.{entrance_of}
+use Rattle.miniport_state.specs.Seen.{AreLevels, AreSmall, Point}
+use Rattle.miniport_state.specs.declared.adapters.Adapters.{Adapters}
+
+abbrev pub image : ImageParts
+image = record { base = 0; entry = 0; size = 0; header_size = 0; headers = []; sections = []; relocations = []; imports = [] }
+
+abbrev pub given : Given
+given = record { hardware = record { port = 0x300; irq = 9; station = 0 ∷ 0 ∷ 0 ∷ 0 ∷ 0 ∷ 0 ∷ [] }; params = [] }
+
+abbrev pub two : Inputs
+two = record { image = image; slots = []; adapters = given ∷ given ∷ []; drivers = []; frames = []; budget = 1000; layout = []; shuts_down = false }
+
+-- what was given is kept, and nothing is charged
+pub record IsSettled (m : Adapters) : Type 0 where
+  pub sixteen : length m.contexts ≡ 16
+  pub own : m.charged ≡ 0
+  pub each : m.charges.items ≡ 0 ∷ 0 ∷ []
+  pub small : AreSmall m.budget m.charged m.charges.items
+  pub levels : AreLevels two m.lines
+  pub most : m.budget ≡ 1000
+  pub begins : m.entry.0 ≡ entry_point image
+  pub ends : m.shuts_down ≡ false
+
+abbrev pub point_of : Adapters → Owner → World → Point
+point_of m book w =
+    record {
+      inputs = two;
+      state = record (start two) { owner = book; world = w; contexts = m.contexts; entrance = entrance_of m.entrance; adapters = m.progress.items };
+    }

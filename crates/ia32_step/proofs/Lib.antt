@@ -1,3 +1,4 @@
-pub mod Sets
+pub mod AtOnce
 pub mod Fetching
+pub mod Sets
 pub mod Steps

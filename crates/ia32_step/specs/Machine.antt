@@ -4,7 +4,7 @@ use Rattle.std.specs.Prelude.{ℕ, ◌≡◌, ◌+◌, List, ◌++◌, length, O
 use Rattle.nd_base.specs.declared.numbers.Slot.{Slot}
 use Rattle.nd_mem.specs.declared.MemFault.{MemFault}
 use Rattle.nd_mem.specs.declared.MemFault.TheVariants as fault
-use Rattle.nd_mem.specs.Space.{Executing, fault_at, executable_run, bytes_from, address}
+use Rattle.nd_mem.specs.Space.{Cells, Executing, fault_at, executable_run, bytes_from, address}
 use Rattle.guest_map.specs.Slots.{slot_at}
 use Rattle.codes.specs.Exact.{AreBytes}
 use Rattle.codes.specs.Readings.{IsOutsideAt, IsUnfinished}
@@ -69,6 +69,11 @@ code_of m = let cells = cells_of m in bytes_from cells m.registers.eip (executab
 abbrev pub fetched : Option MemFault → Machine → Outcome
 fetched (Some fault) m = faulted fault
 fetched None m = run_of (code_of m) m
+
+-- the bytes that can be executed there, 15 at most, begin with so many that spell the instruction
+pub record IsReadAt (cells : Cells) (eip : ℕ) (i : Instr) (n : ℕ) : Type 0 where
+  pub runs : fault_at Executing cells eip ≡ None
+  pub reads : decoded (bytes_from cells eip (executable_run cells eip 15)) ≡ read.One i n
 
 abbrev pub trapped : Option Slot → Machine → Outcome
 trapped (Some slot) m = Trapped slot

@@ -5,10 +5,10 @@
 //! most one write, or to a fault. One place makes the effect, so a fault changes nothing.
 #![tactic(auto)]
 
-ghost use Rattle.std.specs.Prelude.{◌≡◌, ◌≤◌, ◌+◌, length};
+ghost use Rattle.std.specs.Prelude.{◌≡◌, ◌≤◌, ◌+◌, IfSome, length};
 ghost use Rattle.std.specs.FinMap as map;
 ghost use Rattle.nd_mem.specs.Space.{fault_at, Executing};
-ghost use Rattle.ia32_step.specs.Machine.{machine, faulted, stopped, done_by, run_of, cut_off, outcome, answer_to, after, moved, EachStepIsAsSpelled};
+ghost use Rattle.ia32_step.specs.Machine.{machine, faulted, stopped, done_by, run_of, cut_off, fetched, outcome, answer_to, after, moved, IsReadAt, EachStepIsAsSpelled};
 
 mod arithmetic;
 mod bit_strings;
@@ -123,6 +123,35 @@ fn run(code: &[u8], r: &mut Regs, m: &mut Memory) -> Stepped
     }
 }
 
+/// The instruction at EIP, and how many bytes spell it, where they stand in one region of memory.
+#[inline(always)]
+fn read_at_once(eip: Addr, m: &Memory) -> Option<(Instr, u8)>
+    ensures { IfSome result (λ x. IsReadAt (map.get m.now) eip.0 x.0 x.1) }
+{
+    fetch_laws();
+    read_laws();
+    spelled_is_decoded();
+    match m.code(eip) {
+        Ok(run) => match decode(&run[..run.len().min(15)]) {
+            Decoded::One(i, length) => Some((i, length)),
+            _ => None,
+        },
+        Err(_) => None,
+    }
+}
+
+/// Runs what stands at EIP, which is no slot's address, over as many regions as it takes.
+fn run_fetched(r: &mut Regs, m: &mut Memory) -> Stepped
+    ensures answer { result ≡ answer_to (fetched (fault_at Executing (map.get m.old) r.old.eip) (machine r.old m.old)) }
+    ensures state { machine r.new m.new ≡ after (fetched (fault_at Executing (map.get m.old) r.old.eip) (machine r.old m.old)) (machine r.old m.old) }
+{
+    let mut code = [0; 15];
+    match m.fetch(Addr(r.eip), &mut code) {
+        Ok(length) => run(&code[..length], r, m),
+        Err(fault) => refused(fault),
+    }
+}
+
 /// One step of the program in `m`. A fault changes nothing.
 #[tactic(auto, unfolding(crate::specs::Machine::outcome))]
 #[inline]
@@ -134,10 +163,9 @@ pub fn step(r: &mut Regs, m: &mut Memory) -> Stepped
     if let Some(slot) = slot_at(eip) {
         return Stepped::Trap(slot);
     }
-    let mut code = [0; 15];
-    match m.fetch(eip, &mut code) {
-        Ok(length) => run(&code[..length], r, m),
-        Err(fault) => refused(fault),
+    match read_at_once(eip, m) {
+        Some((i, length)) => run_one(&i, length, r, m),
+        None => run_fetched(r, m),
     }
 }
 

@@ -3,7 +3,7 @@ use Rattle.std.proofs.Common.{◌≡◌, ℕ, zero, suc, ◌+◌, ◌<◌, ◌�
 use Rattle.std.proofs.lemmas.List.{length-take-le, get_or-take}
 use Rattle.std.specs.Option.{option_or}
 use Rattle.nd_mem.specs.declared.MemFault.{MemFault}
-use Rattle.nd_mem.specs.Space.{Cells, Access, Executing, fault_at, first_fault, byte_in, bytes_from, run_after, executable_run}
+use Rattle.nd_mem.specs.Space.{IsCode, Cells, Access, Executing, fault_at, first_fault, byte_in, bytes_from, run_after, executable_run}
 use Rattle.nd_mem.specs.Regions.{IsRun}
 use Rattle.nd_mem.proofs.Laws.{wrapped_below, fault_split, fault_none, bytes_split, bytes_are}
 
@@ -88,3 +88,7 @@ drop_behind n r [] rest len = ap (λ m. drop m rest) (omega arith)
 drop_behind n r (x ∷ front) rest len =
     ap (λ m. drop m (x ∷ (front ++ rest))) (let e : n + r ≡ suc (length front + r) = omega arith in e)
     ∙ drop_behind (length front) r front rest refl
+
+-- a run that can be executed is code
+pub code_of_run : (cells : Cells) (a : ℕ) (run : List ℕ) → IsRun Executing cells a run → IsCode cells a run
+code_of_run cells a run is = record { some = is.some; allowed = is.allowed; bytes = λ n inside. bytes_of_run Executing cells a run n is inside }

@@ -1,6 +1,6 @@
 -- Guest memory: a finite map from addresses to a byte and its rights. What a clause asks of it takes its look-up, so that it serves any
 -- way of keeping it. Addresses go on by one and are wrapped, from 0xFFFFFFFF to 0, only where they are looked up.
-use Rattle.std.specs.Prelude.{◌≡◌, ◌≤◌, ℕ, zero, suc, ◌+◌, ◌%◌, ◌^◌, Bool, true, nat_lt, if◌then◌else◌, List, [], ◌∷◌, Option, None, Some, Result, Ok, Err, is_some}
+use Rattle.std.specs.Prelude.{◌≡◌, ◌≤◌, ◌<◌, ℕ, zero, suc, ◌+◌, ◌%◌, ◌^◌, Bool, true, nat_lt, if◌then◌else◌, List, [], ◌∷◌, length, take, Option, None, Some, Result, Ok, Err, is_some}
 use Rattle.std.specs.Ordering.{nat_cmp}
 use Rattle.std.specs.Option.{option_or}
 use Rattle.std.specs.FinMap as map
@@ -95,6 +95,12 @@ zeros_from space a (suc n) rights = zeros_from (map.insert space a (record { byt
 abbrev pub run_after : Option MemFault → ℕ → ℕ
 run_after None n = suc n
 run_after (Some fault) n = 0
+
+-- bytes that stand from an address on, and can all be executed
+pub record IsCode (cells : Cells) (a : ℕ) (run : List ℕ) : Type 0 where
+  pub some : 0 < length run
+  pub allowed : (k : ℕ) → k < length run → fault_at Executing cells (a + k) ≡ None
+  pub bytes : (n : ℕ) → n ≤ length run → bytes_from cells a n ≡ take n run
 
 -- how many of the n bytes from an address on can be executed, up to the first that can't
 unfoldable pub executable_run : Cells → ℕ → ℕ → ℕ

@@ -5,7 +5,7 @@
 ghost use Rattle.std.specs.Prelude.{◌≡◌, ℕ, ◌+◌, ◌-◌, ◌≤◌, ◌<◌, ◌++◌, length, take, drop, IfOk, IfErr, OnOk, OnErr, ◌^◌, min, Ok, Err, Some, None, ◌≢◌};
 ghost use Rattle.std.specs.FinMap as map;
 ghost use Rattle.nd_mem.specs.Regions.{access_of};
-ghost use Rattle.nd_mem.specs.Space.{IsLow, first_fault, answer_of, bytes_from, put_from, zeros_from, executable_run, region_refusal, fault_at, Any, Reading, Writing, Executing};
+ghost use Rattle.nd_mem.specs.Space.{IsCode, IsLow, first_fault, answer_of, bytes_from, put_from, zeros_from, executable_run, region_refusal, fault_at, Any, Reading, Writing, Executing};
 
 use nd_base::Addr;
 use regions::Region;
@@ -183,6 +183,15 @@ impl Memory {
         ensures low { IsLow (map.get self.new) }
     {
         regions::write_runs(&mut self.regions, &self.accessed, Purpose::Place, at, bytes)
+    }
+
+    /// The bytes from `at` on up to the end of its region, which can all be executed.
+    #[inline]
+    pub fn code(&self, at: Addr) -> Result<&[u8], MemFault>
+        ensures ok { IfOk result (λ run. IsCode (map.get self.now) at.0 run.now) }
+        ensures err { IfErr result (λ fault. fault_at Executing (map.get self.now) at.0 ≡ Some fault) }
+    {
+        regions::run_from(&self.regions, &self.fetched, Purpose::Execute, at)
     }
 
     /// Reads into the front of `out` the bytes from `at` on that can be executed, and answers how

@@ -2,7 +2,7 @@ use Rattle.std.proofs.Common.{arith}
 use Rattle.std.specs.FinMap as map
 use Rattle.std.proofs.lemmas.Grind.{common_steps}
 use Rattle.ia32_step.proofs.Fetching.{fetched_le}
-use Rattle.ia32_step.proofs.step.Goals as goal
+use Rattle.ia32_step.proofs.run_fetched.Goals as goal
 
 pub slice_bounds-code-end : goal.slice_bounds-code-end
 slice_bounds-code-end c =

@@ -7,22 +7,15 @@ top=$(cd "$(dirname "$0")/../.." && pwd)
 work=$(mktemp -d)
 trap 'rm -rf "$work"' EXIT
 mkdir -p "$work/repo/crates/forge_lines/src"
-for name in nd_base codes ia32_decode asm_lines asm_encode sys_forge; do
+for name in nd_base codes ia32_decode ia32_fields asm_lines asm_encode line_bytes sys_forge; do
     mkdir "$work/repo/crates/$name"
     for part in src specs proofs; do
         if [ -d "$top/crates/$name/$part" ]; then cp -r "$top/crates/$name/$part" "$work/repo/crates/$name"; fi
     done
+    grep "^$name:" "$top/crates.txt" >> "$work/repo/crates.txt"
 done
+echo 'forge_lines: nd_base sys_forge' >> "$work/repo/crates.txt"
 echo 'Handles allowed: none.' > "$work/repo/HANDLES"
-cat > "$work/repo/crates.txt" <<'CRATES'
-nd_base: thiserror
-codes:
-ia32_decode: codes
-asm_lines: nd_base ia32_decode
-asm_encode: ia32_decode asm_lines
-sys_forge: nd_base ia32_decode asm_lines asm_encode indexmap thiserror
-forge_lines: nd_base sys_forge
-CRATES
 cat > "$work/repo/crates/forge_lines/src/main.rt" <<'RATTLE'
 //! Assembles each line of the standard input alone, and prints its bytes.
 #![tactic(auto)]

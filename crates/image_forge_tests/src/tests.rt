@@ -92,6 +92,58 @@ fn blocks_by_page(rt: HostRuntime) {
     }
 }
 
+/// A letter for each of 16 numbers.
+fn letter(number: u32) -> u8 {
+    b"abcdefghijklmnop"[(number % 16) as usize]
+}
+
+/// A source that calls as many imports, each once.
+fn calls(alloc: Global, count: u32) -> Option<Bytes> {
+    let mut source = Bytes::copy(alloc, b"start:\n").ok()?;
+    for number in 0..count {
+        let name = [
+            letter(number / 4096),
+            letter(number / 256),
+            letter(number / 16),
+            letter(number),
+        ];
+        source.extend_from_slice(b"call @").ok()?;
+        source.extend_from_slice(&name).ok()?;
+        source.push(b'\n').ok()?;
+    }
+    Some(source)
+}
+
+/// A source that calls one import, whose name has as many letters.
+fn long_call(alloc: Global, count: u32) -> Option<Bytes> {
+    let mut source = Bytes::copy(alloc, b"start:\ncall @").ok()?;
+    for _ in 0..count {
+        source.push(b'a').ok()?;
+    }
+    Some(source)
+}
+
+/// Whether the first source has an image, and the second is refused so.
+fn is_last(alloc: Global, last: Option<Bytes>, next: Option<Bytes>, wanted: ForgeRefusal) -> bool {
+    match (last, next) {
+        (Some(last), Some(next)) => {
+            image(alloc, last.as_slice(), b"start").is_ok()
+                && is_refused(alloc, next.as_slice(), b"start", wanted)
+        }
+        _ => false,
+    }
+}
+
+/// An image has 4,096 imports, and names of 255 letters, at most.
+#[test]
+fn limits_of_imports(rt: HostRuntime) {
+    let alloc = rt.alloc();
+    let wanted = ForgeRefusal::Range(4099);
+    assert!(rt; is_last(alloc, calls(alloc, 4096), calls(alloc, 4097), wanted));
+    let wanted = ForgeRefusal::Range(3);
+    assert!(rt; is_last(alloc, long_call(alloc, 255), long_call(alloc, 256), wanted));
+}
+
 #[test]
 fn sources_are_refused(rt: HostRuntime) {
     let alloc = rt.alloc();

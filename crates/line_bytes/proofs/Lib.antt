@@ -1,3 +1,4 @@
 pub mod OctetLaws
 pub mod TableLaws
 pub mod PutLaws
+pub mod Excluded

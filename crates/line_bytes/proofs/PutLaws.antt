@@ -13,7 +13,7 @@ use Rattle.ia32_decode.specs.declared.instruction.Op.{Op}
 use Rattle.ia32_decode.specs.declared.instruction.Op.TheVariants as ops
 use Rattle.ia32_fields.specs.Fields.{IsWide}
 use Rattle.ia32_fields.specs.Jumps.{JumpsAreSpelled, jump as jump_to}
-use Rattle.asm_encode.specs.Operations.{form_of, instruction_of}
+use Rattle.asm_encode.specs.Operations.{form_of}
 use Rattle.asm_encode.specs.Jumps.{jump_of, jump_length, displacement, fits_in, jump_bytes}
 use Rattle.asm_encode.specs.Templates.{filled, IsNumberOf, IsAddressOf, AreWords}
 use Rattle.asm_encode.specs.declared.forms.Form.{Form}
@@ -25,7 +25,7 @@ use Rattle.asm_encode.specs.declared.templates.Fault.TheVariants as faults
 use Rattle.line_bytes.specs.Tables.{Rows, row_of, as_row, place_of}
 use Rattle.line_bytes.specs.Numbers.{Numbered, numbered, number_in, number_or_0, term_of}
 use Rattle.line_bytes.specs.Made.{has_prefix, jump_in, jump_made, made_size, IsPlain, IsMadeAs, IsMade, IsMadeIn}
-use Rattle.line_bytes.specs.Pieces.{Adds, IsJumped, IsStated}
+use Rattle.line_bytes.specs.Pieces.{Adds, IsJumped, IsSpelled, IsStated}
 use Rattle.line_bytes.specs.Refusals.{IsBadJump, plain_jump, IsBadPlain, IsBadForm, IsBadNumbers, IsBadNumbered}
 use Rattle.line_bytes.specs.Putting.{AreWide, JumpLaws, AreNumbers, IsUnnumbered, IsLed, IsPutMade, IsBadMade}
 use Rattle.line_bytes.specs.Reasons.{refused_of}
@@ -114,13 +114,13 @@ jump_put laws old new n form target offset at true o p e h = absurd h
 jump_put laws old new n form target offset at false None p e h = absurd h
 jump_put laws old new n form target offset at false (Some j) p e h = led laws old new n form j target at e p h
 
-plain_put : (old new : List ℕ) (n : Numbered) (form : Form) (m : Made) (value offset at : ℕ) → IsAddressOf (term_of n.value) value → IsAddressOf (term_of n.offset) offset → IsPlain n form m → IsPutMade old new m value offset at → IsPutAs old new (λ piece. Spells piece (instruction_of n.operation form value offset))
+plain_put : (old new : List ℕ) (n : Numbered) (form : Form) (m : Made) (value offset at : ℕ) → IsAddressOf (term_of n.value) value → IsAddressOf (term_of n.offset) offset → IsPlain n form m → IsPutMade old new m value offset at → IsPutAs old new (IsSpelled n.operation form value offset)
 unfolding IsPutMade IsBadMade IsMade IsBadNumbered
 plain_put old new n form (made.Faulty fault) value offset at v o i h = absurd h
 plain_put old new n form (made.Jump j) value offset at v o i h = absurd i
-plain_put old new n form (made.Plain t) value offset at v o i h = record { piece = filled t value offset; parts = h; is = i.each value offset (number_is (term_of n.value) value v) (number_is (term_of n.offset) offset o) }
+plain_put old new n form (made.Plain t) value offset at v o i h = record { piece = filled t value offset; parts = h; is = record { small = i.small value offset (number_is (term_of n.value) value v) (number_is (term_of n.offset) offset o); spelled = i.each value offset (number_is (term_of n.value) value v) (number_is (term_of n.offset) offset o) } }
 
-formed : JumpsAreSpelled → (old new : List ℕ) (n : Numbered) (form : Form) (m : Made) (value offset at : ℕ) (b : Bool) → IsAddressOf (term_of n.value) value → IsAddressOf (term_of n.offset) offset → MatchBool b (m ≡ jump_made n.operation.prefix form.op) (IsPlain n form m) → IsPutMade old new m value offset at → IsPutAs old new (λ piece. MatchBool b (IsJumped n.operation form value at piece) (Spells piece (instruction_of n.operation form value offset)))
+formed : JumpsAreSpelled → (old new : List ℕ) (n : Numbered) (form : Form) (m : Made) (value offset at : ℕ) (b : Bool) → IsAddressOf (term_of n.value) value → IsAddressOf (term_of n.offset) offset → MatchBool b (m ≡ jump_made n.operation.prefix form.op) (IsPlain n form m) → IsPutMade old new m value offset at → IsPutAs old new (λ piece. MatchBool b (IsJumped n.operation form value at piece) (IsSpelled n.operation form value offset piece))
 unfolding IsPutMade IsBadMade IsMade IsBadNumbered
 formed laws old new n form m value offset at true v o i h = jump_put laws old new n form value offset at (has_prefix n.operation.prefix) (jump_of form.op) refl refl (subst (λ k. IsPutMade old new k value offset at) i h)
 formed laws old new n form m value offset at false v o i h = plain_put old new n form m value offset at v o i h

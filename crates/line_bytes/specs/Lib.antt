@@ -6,3 +6,4 @@ pub mod Reasons
 pub mod Pieces
 pub mod Refusals
 pub mod Putting
+pub mod Excluding

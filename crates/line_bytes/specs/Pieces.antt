@@ -6,6 +6,7 @@ use Rattle.asm_lines.specs.Statements.{Statement}
 use Rattle.asm_lines.specs.Lines.{Content, Nothing, Label, Octets, Word, Import, Instruction, line_content}
 use Rattle.asm_encode.specs.Operations.{form_of, instruction_of}
 use Rattle.asm_encode.specs.Jumps.{jump_of, jump_length, displacement, fits_in, jump_bytes}
+use Rattle.asm_encode.specs.Templates.{AreWords}
 use Rattle.asm_encode.specs.declared.operation.Operation.{Operation}
 use Rattle.asm_encode.specs.declared.forms.Form.{Form}
 use Rattle.asm_encode.specs.declared.jumps.Jump.{Jump}
@@ -43,9 +44,14 @@ pub record IsJumped (o : Operation) (form : Form) (target at : ℕ) (piece : Lis
   pub bytes : piece ≡ jump_bytes jump (displacement target (at + jump_length jump))
   pub spelled : Spells piece (jump_to form.op (displacement target (at + length piece)))
 
+-- bytes that spell an operation of a form, with numbers of four bytes
+pub record IsSpelled (o : Operation) (form : Form) (value offset : ℕ) (piece : List ℕ) : Type 0 where
+  pub small : AreWords value offset
+  pub spelled : Spells piece (instruction_of o form value offset)
+
 -- the bytes of an operation of a form at an address
 abbrev pub IsFormed : Operation → Form → ℕ → ℕ → ℕ → List ℕ → Type 0
-IsFormed o form value offset at piece = MatchBool form.is_jump (IsJumped o form value at piece) (Spells piece (instruction_of o form value offset))
+IsFormed o form value offset at piece = MatchBool form.is_jump (IsJumped o form value at piece) (IsSpelled o form value offset piece)
 
 -- the bytes of an instruction at an address: they spell it, with the addresses of its labels
 pub record IsStated (labels : Rows) (statement : Statement) (at : ℕ) (piece : List ℕ) : Type 0 where

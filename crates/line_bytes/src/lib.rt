@@ -5,6 +5,7 @@
 //! relation (specs/Pieces.antt), and why a line has none is another (specs/Refusals.antt).
 #![tactic(auto)]
 
+mod excluding;
 mod made;
 mod numbers;
 mod octets;
@@ -12,6 +13,7 @@ mod piece;
 mod refused;
 mod table;
 
+pub use excluding::bytes_exclude_refusal;
 pub use made::{Made, made_in, size_in};
 pub use piece::{MOST, Met, TEXT, Tables, put_content, put_line};
 pub use refused::Refused;

@@ -3,3 +3,4 @@ pub mod Differing
 pub mod RowLaws
 pub mod Settling
 pub mod Planning
+pub mod Excluded

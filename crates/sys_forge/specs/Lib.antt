@@ -4,3 +4,4 @@ pub mod Assembly
 pub mod Moved
 pub mod Places
 pub mod Whole
+pub mod Excluding

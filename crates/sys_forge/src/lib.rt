@@ -8,10 +8,12 @@
 #![tactic(auto)]
 
 mod assembly;
+mod excluding;
 mod moved;
 mod places;
 mod plan;
 mod refusal;
 
 pub use assembly::{Assembled, assemble, assemble_with_places, line_count};
+pub use excluding::lines_exclude_refusal;
 pub use refusal::ForgeRefusal;

@@ -1,5 +1,5 @@
 -- What admitting an entry answers, and leaves.
-use Rattle.std.specs.Prelude.{◌≡◌, Bool, true, false, Some, None, Result, Ok, Err}
+use Rattle.std.specs.Prelude.{◌≡◌, ◌==◌, Bool, true, false, Some, None, Result, Ok, Err}
 use Rattle.call_log.specs.declared.entry.Entry.{Entry}
 use Rattle.call_log.specs.declared.entry.Entry.TheVariants as entries
 use Rattle.owner_machine.specs.State.{Owner}
@@ -7,14 +7,14 @@ use Rattle.owner_machine.specs.Machine.{rule_against, after}
 use Rattle.owner_book.specs.declared.book.Refusal.{Refusal}
 use Rattle.owner_book.specs.declared.book.Refusal.TheVariants.{Broken, OutOfMemory}
 
--- the kinds for which something is kept that takes memory
+-- the kinds for which something is kept that takes memory; of answers those with success, since the driver learns then what it set
 abbrev pub takes_memory : Entry → Bool
 takes_memory (entries.Send _ _ _) = true
 takes_memory (entries.Cancel _ _) = true
 takes_memory (entries.Event _ _ _ _) = true
 takes_memory (entries.Indicate _ _ _ _ _) = true
 takes_memory (entries.Ask _ _ _) = true
-takes_memory (entries.Answer _ _ _) = true
+takes_memory (entries.Answer _ status _) = status.0 == 0
 takes_memory (entries.Enter _ _ _ _ _) = true
 takes_memory _ = false
 

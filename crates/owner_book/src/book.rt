@@ -35,8 +35,8 @@ pub enum Refusal {
 /// A state of the owner machine, which the entries of a log move.
 #[derive(Drop)]
 pub struct Book {
-    ledger: Ledger,
-    alloc: Global,
+    pub(crate) ledger: Ledger,
+    pub(crate) alloc: Global,
 }
 
 impl Model for Book {

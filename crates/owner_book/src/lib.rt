@@ -14,9 +14,12 @@ mod loan_moves;
 mod moves;
 mod packet_moves;
 mod request_moves;
+mod rows;
 mod standing;
 mod starting;
 mod stopping;
 
 pub use book::{Book, Refusal};
+pub use owner_rows::{WhichLoans, WhichPackets, WhichRequests};
+pub use owner_rules::{Duty, Group};
 pub use standing::Standing;

@@ -11,9 +11,9 @@ use crate::driver_moves::set_binding;
 use crate::handler_moves::{call, enter, leave, reply, stop};
 use crate::loan_moves::{give_back, indicate, send_home};
 use crate::packet_moves::{complete, complete_late, hand, requeue, send, tag};
-use crate::request_moves::{answer, ask, hand_ask};
+use crate::request_moves::{answer, ask, end_request, hand_ask};
 use call_log::Entry;
-use nd_base::{AdapterNo, BindingNo, Bytes, OutOfMemory};
+use nd_base::{AdapterNo, BindingNo, Bytes, OutOfMemory, Status};
 use owner_machine::{Binding, Next};
 use owner_rules::Ledger;
 use std::alloc::Global;
@@ -140,6 +140,7 @@ fn take_at_once(ledger: &mut Ledger, alloc: Global, e: &Entry)
         Entry::Return { driver, loan } => give_back(ledger, *driver, *loan),
         Entry::Back { loan, .. } => send_home(ledger, *loan),
         Entry::HandAsk { request } => hand_ask(ledger, *request),
+        Entry::Answer { request, .. } => end_request(ledger, *request),
         Entry::ResetBegin { adapter } => begin_reset(ledger, *adapter),
         Entry::ResetEnd { adapter, .. } => end_reset(ledger, *adapter),
         Entry::Leave { context, eax } => leave(ledger, *context, *eax),
@@ -165,7 +166,10 @@ fn takes_memory(e: &Entry) -> bool
             | Entry::Event { .. }
             | Entry::Indicate { .. }
             | Entry::Ask { .. }
-            | Entry::Answer { .. }
+            | Entry::Answer {
+                status: Status(0),
+                ..
+            }
             | Entry::Enter { .. }
     )
 }

@@ -1,0 +1,10 @@
+//! What holds in every state of a run: laws of the legal run, each the contract of a function that does
+//! nothing.
+#![tactic(auto)]
+
+mod laws;
+
+pub use laws::{
+    adapters_are_given, calls_agree, contexts_are_ready, levels_agree, lists_keep_their_lengths,
+    runs_go_on, spent_are_due,
+};

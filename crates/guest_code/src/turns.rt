@@ -5,7 +5,7 @@ ghost use Rattle.ia32_step.specs.Machine.{machine, outcome, answer_to};
 ghost use Rattle.legal_run.specs.After.{turned};
 ghost use Rattle.legal_run.specs.Run.{is_moved};
 
-use ia32_step::{Regs, Stepped, step};
+use ia32_step::{Decodings, Regs, Stepped, step_decoded};
 use nd_mem::Memory;
 
 /// How many instructions a turn made, and what the step behind them answered: `Went` where the
@@ -24,9 +24,10 @@ pub fn make_turn(regs: &mut Regs, memory: &mut Memory, most: u8) -> Turned
     ensures whole { result.last ≡ Stepped.Went → result.count ≡ most }
     ensures ending { result.last ≢ Stepped.Went → answer_to (outcome (machine regs.new memory.new)) ≡ result.last }
 {
+    let mut decodings = Decodings::new();
     let mut count = 0;
     while count < most {
-        match step(regs, memory) {
+        match step_decoded(&mut decodings, regs, memory) {
             Stepped::Went => count += 1,
             last => return Turned { count, last },
         }

@@ -1,3 +1,4 @@
+pub mod Chosen
 pub mod EncodedParts
 pub mod Encoded
 pub mod Lengths

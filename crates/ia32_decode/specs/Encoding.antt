@@ -1,5 +1,5 @@
--- One spelling of an instruction, by its parts: Intel SDM volume 2, figure 2-1 and section 2.1. What it is worth is said by `Spells`
--- alone, in the contract of `encode`.
+-- A spelling of an instruction by its parts, and which of its spellings is the chosen one: Intel SDM volume 2, figure 2-1, section 2.1
+-- and appendix A. That it is a spelling is said by `Spells` alone, in the contract of `encode`.
 use Rattle.std.specs.Prelude.{ℕ, ◌≡◌, ◌+◌, ◌*◌, ◌%◌, ◌^◌, ◌<◌, ◌&&◌, not, nat_lt, ◌==◌, Bool, true, false, List, [], ◌∷◌, ◌++◌, Option, Some, None, unwrap_or, option_to_list, slice_index_or, if◌then◌else◌}
 use Rattle.std.specs.Int.{w16, w32, to_le_bytes}
 use Rattle.ia32_decode.specs.Operands.{sign_extended}
@@ -193,7 +193,50 @@ IsFormat v format = IsEntryTail format.prefixes format.opcode (entry_of format.s
 abbrev pub prefixes_of : Instr → Bool → Prefixes
 prefixes_of v short = record { operand_size = short; lock = v.lock; repeat = v.repeat }
 
--- numbers of the parts are of their widths
+-- ---- the chosen spelling: of all places in the opcode maps that spell the instruction the first, where no prefix 66 goes before 66, the
+-- second map before the first, a lower opcode before a higher, and a lower reg field before a higher. (So immediates and jumps have the
+-- widest form that there is.) Displacements of memory operands are as short as they can be (`mode_of`).
+
+-- of a group's rows the one of the lowest reg field
+pub record IsFirstGroupTail (prefixes : Prefixes) (opcode : ℕ) (rows : List (Option Row)) (v : Instr) (tail : Tail) : Type 0 where
+  pub reg : ℕ
+  pub within : reg < 8
+  pub at : IsTailOf prefixes opcode (slice_index_or rows reg None) reg v tail
+  pub before : (k : ℕ) → k < reg → (other : Tail) → IsTailOf prefixes opcode (slice_index_or rows k None) k v other → ⊥
+
+abbrev pub IsFirstTail : Prefixes → ℕ → Entry → Instr → Tail → Type 0
+IsFirstTail prefixes opcode entries.Outside v tail = ⊥
+IsFirstTail prefixes opcode entries.Escape v tail = ⊥
+IsFirstTail prefixes opcode (entries.One row) v tail = IsTail prefixes opcode row (reg_of row.form v) v tail
+IsFirstTail prefixes opcode (entries.Group group) v tail = IsFirstGroupTail prefixes opcode (rows_of group) v tail
+
+-- of a map's opcodes the lowest
+pub record IsFirstIn (entry_at : ℕ → Entry) (prefixes : Prefixes) (v : Instr) (opcode : ℕ) (tail : Tail) : Type 0 where
+  pub low : opcode < 2 ^ 8
+  pub at : IsFirstTail prefixes opcode (entry_at opcode) v tail
+  pub before : (k : ℕ) → k < opcode → (other : Tail) → IsEntryTail prefixes k (entry_at k) v other → ⊥
+
+-- no opcode of the map spells it behind these prefixes
+abbrev pub HasNone : (ℕ → Entry) → Prefixes → Instr → Type 0
+HasNone entry_at prefixes v = (opcode : ℕ) → opcode < 2 ^ 8 → (tail : Tail) → IsEntryTail prefixes opcode (entry_at opcode) v tail → ⊥
+
+pub record IsChosenFormat (v : Instr) (format : Format) : Type 0 where
+  pub prefixes : format.prefixes ≡ prefixes_of v format.prefixes.operand_size
+  pub first : IsFirstIn (entry_of format.second) format.prefixes v format.opcode format.tail
+  pub no_second : format.second ≡ false → HasNone second_of format.prefixes v
+  pub no_plain : format.prefixes.operand_size ≡ true → (second : Bool) → HasNone (entry_of second) (prefixes_of v false) v
+
+pub record IsChosen (v : Instr) (bytes : List ℕ) : Type 0 where
+  pub format : Format
+  pub chosen : IsChosenFormat v format
+  pub written : bytes ≡ bytes_of format
+
+-- law: no instruction has two chosen spellings
+abbrev pub ChosenIsOne : Type 0
+ChosenIsOne = (v : Instr) (bytes others : List ℕ) → IsChosen v bytes → IsChosen v others → bytes ≡ others
+
+-- ---- numbers of the parts are of their widths
+
 abbrev pub IsLowNumber : Number → Type 0
 IsLowNumber numbers.Absent = Unit {0}
 IsLowNumber (numbers.Byte n) = n < 2 ^ 8

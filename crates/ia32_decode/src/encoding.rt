@@ -1,11 +1,11 @@
 //! Spelling an instruction: the prefixes, the opcode, and what its row says stands behind it (Intel
 //! SDM volume 2, figure 2-1).
 
-ghost use Rattle.std.specs.Prelude.{ℕ, ◌≡◌, ◌≤◌, ◌<◌, ◌+◌, ◌*◌, ◌^◌, ◌↔◌, IsTrue, IsSome, IfSome, List, [], ◌∷◌, ◌++◌, length, Option, Some, None, option_to_list, slice_index_or, Bool};
+ghost use Rattle.std.specs.Prelude.{ℕ, ◌≡◌, ◌≤◌, ◌<◌, ◌+◌, ◌*◌, ◌^◌, ◌↔◌, IsTrue, IsSome, IfSome, List, [], ◌∷◌, ◌++◌, length, Option, Some, None, option_to_list, slice_index_or, Bool, true, false};
 ghost use Rattle.ia32_decode.specs.Rows.{built, fits};
 ghost use Rattle.ia32_decode.specs.Operands.{sign_extended};
 ghost use Rattle.ia32_decode.specs.Decoding.{Spells};
-ghost use Rattle.ia32_decode.specs.Encoding.{number_bytes, prefix_bytes, one_if, repeat_bytes, bytes_of, immediate_number, scale_field, index_field, mode_of, base_field, joined, place_fields, offset_fields, fields_of, is_rm, is_reg, rm_among, rm_of, register_of, reg_of, IsTail, IsTailOf, IsGroupTail, IsEntryTail, IsFormat, prefixes_of, IsLow};
+ghost use Rattle.ia32_decode.specs.Encoding.{number_bytes, prefix_bytes, one_if, repeat_bytes, bytes_of, immediate_number, scale_field, index_field, mode_of, base_field, joined, place_fields, offset_fields, fields_of, is_rm, is_reg, rm_among, rm_of, register_of, reg_of, IsTail, IsTailOf, IsGroupTail, IsEntryTail, IsFormat, prefixes_of, IsLow, entry_of, IsFirstGroupTail, IsFirstTail, IsFirstIn, HasNone, IsChosenFormat, IsChosen, ChosenIsOne};
 ghost use Rattle.ia32_decode.specs.Opcodes.{first_of, second_of};
 ghost use Rattle.ia32_decode.specs.declared.instruction.Instr.{Instr};
 ghost use Rattle.ia32_decode.specs.declared.rows.Entry.TheVariants as entry;
@@ -389,6 +389,7 @@ fn group_tail(
 ) -> Option<Tail>
     requires { length rows.now ≡ 8 }
     ensures found { IfSome result (λ tail. IsGroupTail prefixes opcode rows.now instruction tail) }
+    ensures first { IfSome result (λ tail. IsFirstGroupTail prefixes opcode rows.now instruction tail) }
     ensures none { (tail : Tail) → IsGroupTail prefixes opcode rows.now instruction tail → IsSome result }
 {
     for (reg, row) in rows.iter().enumerate() {
@@ -406,6 +407,7 @@ fn group_tail(
 /// What stands behind the opcode.
 fn entry_tail(prefixes: Prefixes, opcode: u8, entry: Entry, instruction: Instr) -> Option<Tail>
     ensures found { IfSome result (λ tail. IsEntryTail prefixes opcode entry instruction tail) }
+    ensures first { IfSome result (λ tail. IsFirstTail prefixes opcode entry instruction tail) }
     ensures none { (tail : Tail) → IsEntryTail prefixes opcode entry instruction tail → IsSome result }
 {
     match entry {
@@ -428,6 +430,7 @@ fn entry_tail(prefixes: Prefixes, opcode: u8, entry: Entry, instruction: Instr) 
 fn find(entries: &[Entry], prefixes: Prefixes, instruction: Instr) -> Option<(u8, Tail)>
     requires { length entries.now ≡ 256 }
     ensures found { IfSome result (λ x. IsEntryTail prefixes x.0 (slice_index_or entries.now x.0 entry.Outside) instruction x.1) }
+    ensures first { IfSome result (λ x. IsFirstIn (λ opcode. slice_index_or entries.now opcode entry.Outside) prefixes instruction x.0 x.1) }
     ensures none { (opcode : ℕ) (tail : Tail) → opcode < 256 → IsEntryTail prefixes opcode (slice_index_or entries.now opcode entry.Outside) instruction tail → IsSome result }
 {
     for (opcode, entry) in entries.iter().enumerate() {
@@ -442,6 +445,7 @@ fn find(entries: &[Entry], prefixes: Prefixes, instruction: Instr) -> Option<(u8
 #[tactic(auto, unfolding(crate::specs::Opcodes::first_of))]
 fn find_first(prefixes: Prefixes, instruction: Instr) -> Option<(u8, Tail)>
     ensures found { IfSome result (λ x. IsEntryTail prefixes x.0 (first_of x.0) instruction x.1) }
+    ensures first { IfSome result (λ x. IsFirstIn (entry_of false) prefixes instruction x.0 x.1) }
     ensures none { (opcode : ℕ) (tail : Tail) → opcode < 256 → IsEntryTail prefixes opcode (first_of opcode) instruction tail → IsSome result }
 {
     find(&FIRST, prefixes, instruction)
@@ -450,6 +454,7 @@ fn find_first(prefixes: Prefixes, instruction: Instr) -> Option<(u8, Tail)>
 #[tactic(auto, unfolding(crate::specs::Opcodes::second_of))]
 fn find_second(prefixes: Prefixes, instruction: Instr) -> Option<(u8, Tail)>
     ensures found { IfSome result (λ x. IsEntryTail prefixes x.0 (second_of x.0) instruction x.1) }
+    ensures first { IfSome result (λ x. IsFirstIn (entry_of true) prefixes instruction x.0 x.1) }
     ensures none { (opcode : ℕ) (tail : Tail) → opcode < 256 → IsEntryTail prefixes opcode (second_of opcode) instruction tail → IsSome result }
 {
     find(&SECOND, prefixes, instruction)
@@ -460,6 +465,8 @@ fn find_second(prefixes: Prefixes, instruction: Instr) -> Option<(u8, Tail)>
 fn format_behind(prefixes: Prefixes, instruction: Instr) -> Option<Format>
     ensures prefixes { IfSome result (λ format. format.prefixes ≡ prefixes) }
     ensures found { IfSome result (λ format. IsFormat instruction format) }
+    ensures lowest { IfSome result (λ format. IsFirstIn (entry_of format.second) prefixes instruction format.opcode format.tail) }
+    ensures no_second { IfSome result (λ format. format.second ≡ false → HasNone second_of prefixes instruction) }
     ensures first { (opcode : ℕ) (tail : Tail) → opcode < 256 → IsEntryTail prefixes opcode (first_of opcode) instruction tail → IsSome result }
     ensures second { (opcode : ℕ) (tail : Tail) → opcode < 256 → IsEntryTail prefixes opcode (second_of opcode) instruction tail → IsSome result }
 {
@@ -485,6 +492,7 @@ fn format_behind(prefixes: Prefixes, instruction: Instr) -> Option<Format>
 /// The parts of an instruction, without the prefix 66 where it can be.
 fn format_of(instruction: Instr) -> Option<Format>
     ensures found { IfSome result (λ format. IsFormat instruction format) }
+    ensures chosen { IfSome result (λ format. IsChosenFormat instruction format) }
     ensures first { (short : Bool) (opcode : ℕ) (tail : Tail) → opcode < 256 → IsEntryTail (prefixes_of instruction short) opcode (first_of opcode) instruction tail → IsSome result }
     ensures second { (short : Bool) (opcode : ℕ) (tail : Tail) → opcode < 256 → IsEntryTail (prefixes_of instruction short) opcode (second_of opcode) instruction tail → IsSome result }
 {
@@ -580,12 +588,14 @@ fn bytes_of(format: Format) -> Spelling
     out
 }
 
-/// Bytes that spell the instruction; none where no bytes do. Of several spellings it is one without
-/// the prefix 66, if there is one, and then with the first opcode of the second map, or else of the
-/// first. So the size of a jump's spelling does not depend on where it leads, unless it has no long
-/// form, and immediates have their widest form; displacements in memory operands have their shortest.
+/// Bytes that spell the instruction; none where no bytes do. Of several spellings it is the chosen
+/// one: without the prefix 66, if there is one, and then with the first opcode of the second map, or
+/// else of the first. So the size of a jump's spelling does not depend on where it leads, unless it
+/// has no long form, and immediates have their widest form; displacements in memory operands have
+/// their shortest.
 pub fn encode(instruction: &Instr) -> Option<Spelling>
     ensures spelled { IfSome result (λ spelling. Spells spelling instruction.now) }
+    ensures chosen { IfSome result (λ spelling. IsChosen instruction.now spelling) }
     ensures none { (bytes : List ℕ) → Spells bytes instruction.now → IsSome result }
 {
     match format_of(*instruction) {
@@ -593,3 +603,8 @@ pub fn encode(instruction: &Instr) -> Option<Spelling>
         None => None,
     }
 }
+
+/// No instruction has two chosen spellings.
+pub fn chosen_is_one()
+    ensures { ChosenIsOne }
+{}

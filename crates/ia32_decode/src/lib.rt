@@ -22,6 +22,6 @@ pub use decoding::{
     Decoded, at_most_fifteen_bytes, decode, decoding_is_exact, floating_point_is_outside,
     prefixes_are_permitted, spelled_is_decoded, spelling_is_one,
 };
-pub use encoding::encode;
+pub use encoding::{chosen_is_one, encode};
 pub use instruction::{Condition, Instr, Op, Operand, Repeat};
 pub use spelling::Spelling;

@@ -49,7 +49,7 @@ unfolding executable_run
 run_none cells a fault e = ap (λ f. run_after f (executable_run cells (a + 1) 14)) e
 
 -- a step at no slot
-at_no_slot : (m : Machine) → slot_at m.registers.eip ≡ None → outcome m ≡ fetched (fault_at Executing (cells_of m) m.registers.eip) m
+pub at_no_slot : (m : Machine) → slot_at m.registers.eip ≡ None → outcome m ≡ fetched (fault_at Executing (cells_of m) m.registers.eip) m
 unfolding outcome
 at_no_slot m e = ap (λ s. trapped s m) e
 

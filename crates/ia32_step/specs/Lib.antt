@@ -11,3 +11,4 @@ pub mod Strings
 pub mod BitStrings
 pub mod Meaning
 pub mod Machine
+pub mod Decodings

@@ -1,8 +1,8 @@
 //! What an instruction does: a match over operations, which names each one's family.
 
-ghost use Rattle.std.specs.Prelude.{◌≡◌, Ok};
+ghost use Rattle.std.specs.Prelude.{◌≡◌, Ok, IfOk};
 ghost use Rattle.ia32_step.specs.State.{machine};
-ghost use Rattle.ia32_step.specs.Operands.{Leaves, settled, answer_to, after};
+ghost use Rattle.ia32_step.specs.Operands.{Leaves, settled, written, answer_to, after};
 ghost use Rattle.ia32_step.specs.Meaning.{width_of, effect_of, meaning};
 
 use crate::arithmetic::{altered, changed, compared, double_shifted, shifted};
@@ -144,17 +144,22 @@ fn effect_of(i: &Instr, start: u32, r: &mut Regs, m: &Memory) -> Result<Write, S
     }
 }
 
-/// Does the instruction, which so many bytes spell. Without a result nothing changes.
+/// Does the instruction, which so many bytes spell, and answers its write. Without a result nothing
+/// changes.
 #[tactic(auto, unfolding(crate::specs::Meaning::meaning, crate::specs::Operands::committed))]
 #[inline(always)]
-pub fn execute(i: &Instr, length: u8, r: &mut Regs, m: &mut Memory) -> Result<(), Stop>
-    ensures answer { result ≡ answer_to (meaning i.now length (machine r.old m.old)) }
+pub fn execute(i: &Instr, length: u8, r: &mut Regs, m: &mut Memory) -> Result<Write, Stop>
+    ensures answer { answer_to result ≡ answer_to (meaning i.now length (machine r.old m.old)) }
     ensures state { machine r.new m.new ≡ after (meaning i.now length (machine r.old m.old)) (machine r.old m.old) }
+    ensures write { IfOk result (λ write. written write r.old m.old ≡ Ok m.new) }
 {
     let before = *r;
     advance(u32::from(length), r);
     let done = match effect_of(i, before.eip, r, m) {
-        Ok(write) => commit(write, &before, m),
+        Ok(write) => match commit(write, &before, m) {
+            Ok(()) => Ok(write),
+            Err(stop) => Err(stop),
+        },
         Err(stop) => Err(stop),
     };
     if done.is_err() {

@@ -5,15 +5,18 @@
 //! most one write, or to a fault. One place makes the effect, so a fault changes nothing.
 #![tactic(auto)]
 
-ghost use Rattle.std.specs.Prelude.{◌≡◌, ◌≤◌, ◌+◌, IfSome, length};
+ghost use Rattle.std.specs.Prelude.{◌≡◌, ◌≤◌, ◌+◌, None, true, IfSome, length};
 ghost use Rattle.std.specs.FinMap as map;
 ghost use Rattle.nd_mem.specs.Space.{fault_at, Executing};
+ghost use Rattle.guest_map.specs.Slots.{slot_at};
+ghost use Rattle.ia32_step.specs.Decodings.{Keeps, IsHeld};
 ghost use Rattle.ia32_step.specs.Machine.{machine, faulted, stopped, done_by, run_of, cut_off, fetched, outcome, answer_to, after, moved, IsReadAt, EachStepIsAsSpelled};
 
 mod arithmetic;
 mod bit_strings;
 mod conditions;
 mod control;
+mod decodings;
 mod effects;
 mod execute;
 mod moves;
@@ -23,6 +26,7 @@ mod registers;
 mod stack;
 mod strings;
 
+pub use decodings::Decodings;
 use effects::Stop;
 use execute::execute;
 use guest_map::slot_at;
@@ -30,7 +34,7 @@ use ia32_decode::{
     Decoded, Instr, at_most_fifteen_bytes, decode, decoding_is_exact, spelled_is_decoded,
 };
 use nd_base::{Addr, Slot};
-use nd_mem::{MemFault, Memory, fetch_laws, read_laws};
+use nd_mem::{MemFault, Memory, fault_laws, fetch_laws, read_laws};
 pub use registers::Regs;
 
 /// Why an instruction has no result.
@@ -89,7 +93,7 @@ fn run_one(i: &Instr, length: u8, r: &mut Regs, m: &mut Memory) -> Stepped
 {
     let eip = r.eip;
     match execute(i, length, r, m) {
-        Ok(()) => Stepped::Went,
+        Ok(_) => Stepped::Went,
         Err(stop) => stopped(stop, eip),
     }
 }
@@ -167,6 +171,69 @@ pub fn step(r: &mut Regs, m: &mut Memory) -> Stepped
         Some((i, length)) => run_one(&i, length, r, m),
         None => run_fetched(r, m),
     }
+}
+
+/// Does the instruction that is kept of EIP.
+#[tactic(auto, unfolding(crate::specs::Machine::outcome))]
+#[inline(always)]
+fn run_kept(decodings: &mut Decodings, r: &mut Regs, m: &mut Memory) -> Stepped
+    requires held { IsHeld decodings.old r.old.eip m.old }
+    requires kept { Keeps decodings.old m.old }
+    ensures answer { result ≡ answer_to (outcome (machine r.old m.old)) }
+    ensures state { machine r.new m.new ≡ moved (machine r.old m.old) }
+    ensures keeps { Keeps decodings.new m.new }
+{
+    fault_laws();
+    fetch_laws();
+    read_laws();
+    let eip = r.eip;
+    let kept = &decodings.kept[(eip % 32) as usize];
+    match execute(&kept.instruction, kept.length, r, m) {
+        Ok(write) => {
+            if decodings.is_met(write) {
+                *decodings = Decodings::new();
+            }
+            Stepped::Went
+        }
+        Err(stop) => stopped(stop, eip),
+    }
+}
+
+/// Looks for an instruction at EIP, which is no slot's address, and keeps it, if its bytes stand in
+/// one region of memory.
+#[inline]
+fn look_up(decodings: &mut Decodings, eip: u32, m: &Memory) -> bool
+    requires slot { slot_at eip ≡ None }
+    requires kept { Keeps decodings.old m.now }
+    ensures keeps { Keeps decodings.new m.now }
+    ensures held { result ≡ true → IsHeld decodings.new eip m.now }
+{
+    match read_at_once(Addr(eip), m) {
+        Some((i, length)) => decodings.keep(eip, i, length, m),
+        None => false,
+    }
+}
+
+/// One step, as `step` makes it, over what is kept of the steps before.
+#[tactic(auto, unfolding(crate::specs::Machine::outcome))]
+#[inline]
+pub fn step_decoded(decodings: &mut Decodings, r: &mut Regs, m: &mut Memory) -> Stepped
+    requires { Keeps decodings.old m.old }
+    ensures answer { result ≡ answer_to (outcome (machine r.old m.old)) }
+    ensures state { machine r.new m.new ≡ moved (machine r.old m.old) }
+    ensures keeps { Keeps decodings.new m.new }
+{
+    let eip = r.eip;
+    if !decodings.holds(eip) {
+        if let Some(slot) = slot_at(Addr(eip)) {
+            return Stepped::Trap(slot);
+        }
+        if !look_up(decodings, eip, m) {
+            *decodings = Decodings::new();
+            return run_fetched(r, m);
+        }
+    }
+    run_kept(decodings, r, m)
 }
 
 /// A step does the instruction that is spelled at EIP, or says why there is none.

@@ -1,7 +1,7 @@
 //! Instructions, one at a time and in small programs.
 
 use ia32_arithmetic::Flags;
-use ia32_step::{FaultKind, Regs, Stepped, step};
+use ia32_step::{Decodings, FaultKind, Regs, Stepped, step, step_decoded};
 use nd_base::{Addr, Slot};
 use nd_mem::{Memory, Rights};
 use std::alloc::Global;
@@ -333,4 +333,143 @@ fn slots_trap(rt: HostRuntime) {
         && stepped_at(&mut m, 0xF000_0400)
             == Stepped::Fault(FaultKind::Unmapped, Addr(0xF000_0400));
     assert!(rt; holds);
+}
+
+/// So many steps over what is kept of the steps before.
+fn decoded_steps(n: u32, r: &mut Regs, m: &mut Memory) -> Stepped {
+    let mut decodings = Decodings::new();
+    let mut count = 0;
+    while count < n {
+        match step_decoded(&mut decodings, r, m) {
+            Stepped::Went => count += 1,
+            last => return last,
+        }
+    }
+    Stepped::Went
+}
+
+/// The same steps, each decoded anew.
+fn steps(n: u32, r: &mut Regs, m: &mut Memory) -> Stepped {
+    for _ in 0..n {
+        match step(r, m) {
+            Stepped::Went => {}
+            last => return last,
+        }
+    }
+    Stepped::Went
+}
+
+/// A program that may be written over, with these bytes at its front and zeros behind.
+fn program(alloc: Global, code: &[u8]) -> Memory {
+    let mut m = Memory::new(alloc);
+    let all = Rights {
+        read: true,
+        write: true,
+        execute: true,
+    };
+    let _ = m.add_region(alloc, Addr(CODE), 0x100, all);
+    let _ = m.place(Addr(CODE), code);
+    m
+}
+
+/// The programs are the same in the two memories.
+fn are_same(a: &Memory, b: &Memory) -> bool {
+    let mut left = [0; 0x100];
+    let mut right = [1; 0x100];
+    a.read(Addr(CODE), &mut left).is_ok() && b.read(Addr(CODE), &mut right).is_ok() && left == right
+}
+
+/// The registers after 64 steps of the program, and whether they, memory and the last answer are
+/// the same as where each step is decoded anew.
+fn ran(alloc: Global, code: &[u8], first: Regs) -> (bool, Regs) {
+    let mut a = program(alloc, code);
+    let mut b = program(alloc, code);
+    let mut kept = first;
+    let mut anew = first;
+    let ends = decoded_steps(64, &mut kept, &mut a) == steps(64, &mut anew, &mut b);
+    (ends && kept == anew && are_same(&a, &b), kept)
+}
+
+/// Registers at the front of a program, with these in ECX, ESI and EDI.
+fn at_front(ecx: u32, esi: u32, edi: u32) -> Regs {
+    let mut r = Regs::new();
+    r.eip = CODE;
+    r.general[ECX] = ecx;
+    r.general[ESI] = esi;
+    r.general[EDI] = edi;
+    r
+}
+
+/// A loop that writes nothing.
+#[test]
+fn kept_loops_are_steps(rt: HostRuntime) {
+    let first = at_front(0, 0, 0);
+    // inc eax; add ecx, eax; jmp to the front
+    let plain = ran(rt.alloc(), &[0x40, 0x01, 0xC1, 0xEB, 0xFB], first);
+    assert!(rt; plain.0 && plain.1.general[EAX] == 22);
+}
+
+/// Loops that write over an instruction of theirs: the one before, the next one, a byte inside one.
+#[test]
+fn what_is_written_is_run(rt: HostRuntime) {
+    let first = at_front(0, 0, 0);
+    // inc eax; xor byte [CODE], 8; jmp to the front: inc and dec in turn
+    let code = [0x40, 0x80, 0x35, 0, 0x10, 0, 0, 8, 0xEB, 0xF6];
+    let turned = ran(rt.alloc(), &code, first);
+    assert!(rt; turned.0 && turned.1.general[EAX] == 0);
+    // mov byte [CODE + 7], 0x48; inc eax; jmp to the front: dec each time
+    let code = [0xC6, 0x05, 7, 0x10, 0, 0, 0x48, 0x40, 0xEB, 0xF6];
+    let next = ran(rt.alloc(), &code, first);
+    assert!(rt; next.0 && next.1.general[EAX] == 0xFFFF_FFEB);
+    // add eax, 1; inc byte [CODE + 1]; jmp to the front
+    let code = [0x05, 1, 0, 0, 0, 0xFE, 0x05, 1, 0x10, 0, 0, 0xEB, 0xF3];
+    let sum = ran(rt.alloc(), &code, first);
+    assert!(rt; sum.0 && sum.1.general[EAX] == 253);
+}
+
+/// Loops that write just below their own bytes, just behind them, and into one of them by the last
+/// byte of a word.
+#[test]
+fn writes_beside_code(rt: HostRuntime) {
+    let mut first = at_front(0, 0, 0);
+    first.eip = CODE + 4;
+    // nops; inc dword [CODE]; inc eax; jmp: the word before the loop
+    let code = [
+        0x90, 0x90, 0x90, 0x90, 0xFF, 0x05, 0, 0x10, 0, 0, 0x40, 0xEB, 0xF7,
+    ];
+    let below = ran(rt.alloc(), &code, first);
+    assert!(rt; below.0 && below.1.general[EAX] == 21);
+    // inc dword [CODE + 13]: the word behind the loop
+    let code = [
+        0x90, 0x90, 0x90, 0x90, 0xFF, 0x05, 13, 0x10, 0, 0, 0x40, 0xEB, 0xF7,
+    ];
+    let behind = ran(rt.alloc(), &code, first);
+    assert!(rt; behind.0 && behind.1.general[EAX] == 21);
+    // xor dword [CODE + 7], 0x08000000: the last byte of the word is the loop's inc, or dec
+    let code = [0x81, 0x35, 7, 0x10, 0, 0, 0, 0, 0, 8, 0x40, 0xEB, 0xF3];
+    let last = ran(rt.alloc(), &code, at_front(0, 0, 0));
+    assert!(rt; last.0 && last.1.general[EAX] == 0xFFFF_FFFF);
+}
+
+/// Two instructions 32 bytes apart, which have one place, in turn.
+#[test]
+fn one_place_of_two(rt: HostRuntime) {
+    let mut code = [0x90; 0x40];
+    // jmp to CODE + 0x20; there add eax, 2; jmp to CODE + 2; there inc ecx; jmp to the front
+    let front = [0xEB, 0x1E, 0x41, 0xEB, 0xFB];
+    let back = [0x83, 0xC0, 2, 0xEB, 0xDD];
+    code[..5].copy_from_slice(&front);
+    code[0x20..0x25].copy_from_slice(&back);
+    let both = ran(rt.alloc(), &code, at_front(0, 0, 0));
+    assert!(rt; both.0 && both.1.general[EAX] == 26 && both.1.general[ECX] == 13);
+}
+
+/// rep movsb over itself: when its first byte is written, inc eax and movsb stand there.
+#[test]
+fn strings_over_code(rt: HostRuntime) {
+    // rep movsb; jmp to itself; what is copied
+    let code = [0xF3, 0xA4, 0xEB, 0xFE, 0x40, 0x40, 0x40, 0xEB, 0xFE];
+    let over = ran(rt.alloc(), &code, at_front(5, CODE + 4, CODE));
+    assert!(rt; over.0 && over.1.eip == CODE + 2 && over.1.general[EAX] == 1);
+    assert!(rt; over.1.general[ECX] == 4);
 }

@@ -9,14 +9,16 @@ loop-count-init c = record {
   count = omega arith;
   moves = λ k less. absurd (omega arith);
   state = sym (turned_none _);
+  keeps = c.new-decodings.ensures c.args.memory.now;
 }
 
 pub loop-count-preserved : goal.loop-count-preserved
 loop-count-preserved c =
     let before = c.loop-count.invariant in
-    let went = moved_by_went _ (sym c.in-Went.is ∙ c.step.ensures.answer) in
+    let went = moved_by_went _ (sym c.in-Went.is ∙ c.step_decoded.ensures.answer) in
     record {
       count = omega arith;
       moves = below_more _ _ before.moves (subst (λ (m : Machine). is_moved (outcome m) ≡ true) before.state went);
-      state = c.step.ensures.state ∙ ap moved before.state ∙ sym (turned_more _ _);
+      state = c.step_decoded.ensures.state ∙ ap moved before.state ∙ sym (turned_more _ _);
+      keeps = c.step_decoded.ensures.keeps;
     }

@@ -1,8 +1,9 @@
 -- The bytes of an operation whose numbers may be put in later, and why there are none.
-use Rattle.std.specs.Prelude.{ℕ, ◌≡◌, ◌+◌, ◌-◌, ◌%◌, ◌^◌, ◌<◌, ◌≤◌, ◌⊎◌, Bool, true, false, List, ◌++◌, length, take, drop, Option, Some, None, nat_lt, nat_le, if◌then◌else◌}
+use Rattle.std.specs.Prelude.{ℕ, ◌≡◌, ◌+◌, ◌-◌, ◌%◌, ◌^◌, ◌<◌, ◌≤◌, ◌⊎◌, ◌==◌, Bool, true, false, List, ◌++◌, length, take, drop, Option, Some, None, nat_lt, nat_le, if◌then◌else◌}
 use Rattle.std.specs.Int.{w32, to_le_bytes}
 use Rattle.std.specs.Str.{bytes_eq}
 use Rattle.ia32_decode.specs.Decoding.{Spells}
+use Rattle.ia32_decode.specs.Encoding.{IsChosen}
 use Rattle.ia32_decode.specs.declared.instruction.Instr.{Instr}
 use Rattle.ia32_fields.specs.Fields.{IsWide}
 use Rattle.asm_encode.specs.Operations.{low, has_memory, instruction_of}
@@ -64,6 +65,42 @@ pub record IsTemplate (o : Operation) (form : Form) (value offset : Term) (t : T
   pub long : (v m : ℕ) → length (filled t v m) ≡ length (bytes_in t)
   pub small : (v m : ℕ) → IsNumberOf value v → IsNumberOf offset m → AreWords v m
 
+-- ---- which template it is: its bytes are the chosen spelling of the instruction with such numbers in place of the open ones that they
+-- need four bytes
+
+-- what stands for an open offset beside a value
+abbrev pub open_offset : ℕ → ℕ
+open_offset value = if value == 0x40302010 then 0x43332313 else 0x40302010
+
+-- the offset is put in later
+abbrev pub is_put_in : Operation → Term → Bool
+is_put_in o (Known k) = false
+is_put_in o Open = has_memory o
+
+-- how many bytes stand behind those of a number: the first of 0, 1, 2 and 4 that can be
+abbrev pub behind_word : List ℕ → ℕ → ℕ
+behind_word bytes word = if ends_behind bytes word 0 then 0 else (if ends_behind bytes word 1 then 1 else (if ends_behind bytes word 2 then 2 else 4))
+
+-- the bytes as a template, for a value and with or without a place for the offset
+abbrev pub template_in : Term → Bool → List ℕ → ℕ → Template
+template_in (Known k) true bytes word = WithOffset bytes (behind_word bytes word)
+template_in (Known k) false bytes word = Fixed bytes
+template_in Open true bytes word = WithBoth bytes
+template_in Open false bytes word = WithValue bytes
+
+pub record IsChosenTemplate (o : Operation) (form : Form) (value offset : Term) (t : Template) : Type 0 where
+  pub v : ℕ
+  pub v_is : word_of value 0x44332211 ≡ Some v
+  pub m : ℕ
+  pub m_is : word_of offset (open_offset v) ≡ Some m
+  pub bytes : List ℕ
+  pub chosen : IsChosen (instruction_of o form v m) bytes
+  pub is : t ≡ template_in value (is_put_in o offset) bytes (open_offset v)
+
+-- law: an operation has one template at most
+abbrev pub TemplateIsOne : Type 0
+TemplateIsOne = (o : Operation) (form : Form) (value offset : Term) (t other : Template) → IsChosenTemplate o form value offset t → IsChosenTemplate o form value offset other → t ≡ other
+
 -- ---- why there is none
 
 abbrev pub NoBytes : Instr → Type 0
@@ -89,11 +126,6 @@ abbrev pub IsFault : Operation → Form → Term → Term → Fault → Type 0
 IsFault o form value offset fault = (v m : ℕ) → IsAddressOf value v → IsAddressOf offset m → IsFaultWith o form v m fault
 
 -- ---- how templates are found
-
--- the offset is put in later
-abbrev pub is_put_in : Operation → Term → Bool
-is_put_in o (Known k) = false
-is_put_in o Open = has_memory o
 
 -- a wide offset stands in the bytes, and behind it the immediate, which is another number
 pub record IsPlaced (bytes : List ℕ) (word imm : ℕ) (front back : List ℕ) : Type 0 where

@@ -13,4 +13,4 @@ mod templates;
 pub use forms::{Form, form_of};
 pub use jumps::{Jump, jump_of};
 pub use operation::{Given, Operation};
-pub use templates::{Fault, Template, Term, template_of};
+pub use templates::{Fault, Template, Term, template_is_one, template_of};

@@ -3,11 +3,11 @@
 ghost use Rattle.std.specs.Prelude.{ℕ, ◌≡◌, ◌≢◌, ◌≤◌, List, length, Some, IsSome, IfOk, IfErr};
 ghost use Rattle.ia32_decode.specs.Decoding.{Spells};
 ghost use Rattle.asm_encode.specs.Operations.{instruction_of};
-ghost use Rattle.asm_encode.specs.Templates.{word_of, low_of, ends_behind, IsPlaced, IsOpenOffset, is_put_in, IsTemplate, IsZeroFault, IsFault};
+ghost use Rattle.asm_encode.specs.Templates.{word_of, low_of, ends_behind, IsPlaced, IsOpenOffset, is_put_in, IsTemplate, IsZeroFault, IsFault, open_offset, behind_word, template_in, IsChosenTemplate, TemplateIsOne};
 
 use crate::forms::{Form, instruction_of};
 use crate::operation::{Operation, has_memory, low};
-use ia32_decode::{Spelling, encode};
+use ia32_decode::{Spelling, chosen_is_one, encode};
 use ia32_fields::{wide_immediates, wide_offsets};
 
 /// Why an operation is not spelled.
@@ -82,7 +82,8 @@ fn ends_behind(bytes: &[u8], word: u32, behind: usize) -> bool
 /// How many bytes stand behind those of the offset.
 fn behind_offset(bytes: &[u8], word: u32) -> usize
     requires { IsOpenOffset word }
-    ensures { (front back : List ℕ) (imm : ℕ) → IsPlaced bytes.now word imm front back → result ≡ length back }
+    ensures value { result ≡ behind_word bytes.now word }
+    ensures found { (front back : List ℕ) (imm : ℕ) → IsPlaced bytes.now word imm front back → result ≡ length back }
 {
     if ends_behind(bytes, word, 0) {
         0
@@ -107,6 +108,7 @@ fn zero_fault(operation: Operation, form: Form, offset: u32) -> Fault
 
 /// The number that stands for an open offset beside a value.
 fn open_offset(value: u32) -> u32
+    ensures value { result ≡ open_offset value }
     ensures known { IsOpenOffset result }
     ensures other { value ≢ result }
 {
@@ -141,7 +143,8 @@ fn with_places(
     requires spelled { (n m : ℕ) → word_of value VALUE ≡ Some n → word_of offset filler ≡ Some m → Spells bytes (instruction_of operation form n m) }
     requires value { IsSome (word_of value VALUE) }
     requires offset { IsSome (word_of offset filler) }
-    ensures { IsTemplate operation form value offset result }
+    ensures template { IsTemplate operation form value offset result }
+    ensures shape { result ≡ template_in value (is_put_in operation offset) bytes filler }
 {
     wide_immediates();
     wide_offsets();
@@ -169,6 +172,7 @@ pub fn template_of(
     offset: Term,
 ) -> Result<Template, Fault>
     ensures ok { IfOk result (λ t. IsTemplate operation form value offset t) }
+    ensures chosen { IfOk result (λ t. IsChosenTemplate operation form value offset t) }
     ensures err { IfErr result (λ fault. IsFault operation form value offset fault) }
 {
     wide_immediates();
@@ -184,4 +188,11 @@ pub fn template_of(
         Some(bytes) => Ok(with_places(operation, form, value, offset, bytes, filler)),
         None => Err(zero_fault(operation, form, low_of(offset, filler))),
     }
+}
+
+/// An operation has one template at most.
+pub fn template_is_one()
+    ensures { TemplateIsOne }
+{
+    chosen_is_one();
 }

@@ -2,3 +2,4 @@ pub mod OctetLaws
 pub mod TableLaws
 pub mod PutLaws
 pub mod Excluded
+pub mod One

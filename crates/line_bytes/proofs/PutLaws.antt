@@ -25,7 +25,7 @@ use Rattle.asm_encode.specs.declared.templates.Fault.TheVariants as faults
 use Rattle.line_bytes.specs.Tables.{Rows, row_of, as_row, place_of}
 use Rattle.line_bytes.specs.Numbers.{Numbered, numbered, number_in, number_or_0, term_of}
 use Rattle.line_bytes.specs.Made.{has_prefix, jump_in, jump_made, made_size, IsPlain, IsMadeAs, IsMade, IsMadeIn}
-use Rattle.line_bytes.specs.Pieces.{Adds, IsJumped, IsSpelled, IsStated}
+use Rattle.line_bytes.specs.Pieces.{Adds, IsJumped, IsSpelled, IsFilled, IsStated}
 use Rattle.line_bytes.specs.Refusals.{IsBadJump, plain_jump, IsBadPlain, IsBadForm, IsBadNumbers, IsBadNumbered}
 use Rattle.line_bytes.specs.Putting.{AreWide, JumpLaws, AreNumbers, IsUnnumbered, IsLed, IsPutMade, IsBadMade}
 use Rattle.line_bytes.specs.Reasons.{refused_of}
@@ -114,15 +114,17 @@ jump_put laws old new n form target offset at true o p e h = absurd h
 jump_put laws old new n form target offset at false None p e h = absurd h
 jump_put laws old new n form target offset at false (Some j) p e h = led laws old new n form j target at e p h
 
-plain_put : (old new : List ℕ) (n : Numbered) (form : Form) (m : Made) (value offset at : ℕ) → IsAddressOf (term_of n.value) value → IsAddressOf (term_of n.offset) offset → IsPlain n form m → IsPutMade old new m value offset at → IsPutAs old new (IsSpelled n.operation form value offset)
+plain_put : (old new : List ℕ) (n : Numbered) (form : Form) (m : Made) (value offset at : ℕ) → IsAddressOf (term_of n.value) value → IsAddressOf (term_of n.offset) offset → IsPlain n form m → IsPutMade old new m value offset at → IsPutAs old new (λ piece. IsSpelled n.operation form value offset piece × IsFilled n form value offset piece)
 unfolding IsPutMade IsBadMade IsMade IsBadNumbered
 plain_put old new n form (made.Faulty fault) value offset at v o i h = absurd h
 plain_put old new n form (made.Jump j) value offset at v o i h = absurd i
-plain_put old new n form (made.Plain t) value offset at v o i h = record { piece = filled t value offset; parts = h; is = record { small = i.small value offset (number_is (term_of n.value) value v) (number_is (term_of n.offset) offset o); spelled = i.each value offset (number_is (term_of n.value) value v) (number_is (term_of n.offset) offset o) } }
+plain_put old new n form (made.Plain t) value offset at v o i h = record { piece = filled t value offset; parts = h; is = (record { small = i.0.small value offset (number_is (term_of n.value) value v) (number_is (term_of n.offset) offset o); spelled = i.0.each value offset (number_is (term_of n.value) value v) (number_is (term_of n.offset) offset o) }, record { template = t; chosen = i.1; bytes = refl }) }
 
-formed : JumpsAreSpelled → (old new : List ℕ) (n : Numbered) (form : Form) (m : Made) (value offset at : ℕ) (b : Bool) → IsAddressOf (term_of n.value) value → IsAddressOf (term_of n.offset) offset → MatchBool b (m ≡ jump_made n.operation.prefix form.op) (IsPlain n form m) → IsPutMade old new m value offset at → IsPutAs old new (λ piece. MatchBool b (IsJumped n.operation form value at piece) (IsSpelled n.operation form value offset piece))
+formed : JumpsAreSpelled → (old new : List ℕ) (n : Numbered) (form : Form) (m : Made) (value offset at : ℕ) (b : Bool) → IsAddressOf (term_of n.value) value → IsAddressOf (term_of n.offset) offset → MatchBool b (m ≡ jump_made n.operation.prefix form.op) (IsPlain n form m) → IsPutMade old new m value offset at → IsPutAs old new (λ piece. MatchBool b (IsJumped n.operation form value at piece) (IsSpelled n.operation form value offset piece) × MatchBool b (Unit {0}) (IsFilled n form value offset piece))
 unfolding IsPutMade IsBadMade IsMade IsBadNumbered
-formed laws old new n form m value offset at true v o i h = jump_put laws old new n form value offset at (has_prefix n.operation.prefix) (jump_of form.op) refl refl (subst (λ k. IsPutMade old new k value offset at) i h)
+formed laws old new n form m value offset at true v o i h =
+    let p = jump_put laws old new n form value offset at (has_prefix n.operation.prefix) (jump_of form.op) refl refl (subst (λ k. IsPutMade old new k value offset at) i h) in
+    record { piece = p.piece; parts = p.parts; is = (p.is, tt) }
 formed laws old new n form m value offset at false v o i h = plain_put old new n form m value offset at v o i h
 
 stated_as : JumpsAreSpelled → (labels : Rows) (s : Statement) (old new : List ℕ) (n : Numbered) (fo : Option Form) (m : Made) (value offset at : ℕ) → numbered s ≡ Some n → number_or_0 labels n.value ≡ Some value → number_or_0 labels n.offset ≡ Some offset → AreWide labels → form_of n.operation ≡ fo → IsMadeAs n fo m → IsPutMade old new m value offset at → Adds old new (IsStated labels s at)
@@ -130,7 +132,7 @@ unfolding IsPutMade IsBadMade IsMade IsBadNumbered
 stated_as laws labels s old new n None m value offset at e v o w f i h = absurd (subst (λ k. IsPutMade old new k value offset at) i h)
 stated_as laws labels s old new n (Some form) m value offset at e v o w f i h =
     let p = formed laws old new n form m value offset at form.is_jump (address_is labels n.value value w v) (address_is labels n.offset offset w o) i h in
-    record { piece = p.piece; parts = p.parts; is = record { numbers = n; is = e; value = value; value_is = v; offset = offset; offset_is = o; form = form; form_is = f; formed = p.is } }
+    record { piece = p.piece; parts = p.parts; is = record { numbers = n; is = e; value = value; value_is = v; offset = offset; offset_is = o; form = form; form_is = f; formed = p.is.0; filled = p.is.1 } }
 
 pub stated : JumpsAreSpelled → (labels : Rows) (s : Statement) (old new : List ℕ) (n : Numbered) (m : Made) (value offset at : ℕ) → numbered s ≡ Some n → number_or_0 labels n.value ≡ Some value → number_or_0 labels n.offset ≡ Some offset → AreWide labels → IsMade (numbered s) m → IsPutMade old new m value offset at → Adds old new (IsStated labels s at)
 unfolding IsPutMade IsBadMade IsMade IsBadNumbered
@@ -142,7 +144,7 @@ long_plain : (old new : List ℕ) (n : Numbered) (form : Form) (m : Made) (value
 unfolding IsPutMade IsBadMade IsMade IsBadNumbered
 long_plain old new n form (made.Faulty fault) value offset at i h = absurd h
 long_plain old new n form (made.Jump j) value offset at i h = absurd i
-long_plain old new n form (made.Plain t) value offset at i h = ap length h ∙ length-append old (filled t value offset) ∙ ap (λ k. length old + k) (i.long value offset)
+long_plain old new n form (made.Plain t) value offset at i h = ap length h ∙ length-append old (filled t value offset) ∙ ap (λ k. length old + k) (i.0.long value offset)
 
 long_jump : (old new : List ℕ) (b : Bool) (o : Option Jump) (value offset at : ℕ) → IsPutMade old new (cond b (made.Faulty faults.NoForm) (jump_in o)) value offset at → length new ≡ length old + made_size (cond b (made.Faulty faults.NoForm) (jump_in o))
 unfolding IsPutMade IsBadMade IsMade IsBadNumbered
@@ -191,8 +193,8 @@ bad_plain n form (made.Faulty faults.NoForm) value offset at refused.Range v o i
 bad_plain n form (made.Faulty faults.Range) value offset at refused.Line v o i h = absurd (cc)
 bad_plain n form (made.Faulty faults.Range) value offset at refused.Range v o i h = i value offset v o
 bad_plain n form (made.Jump j) value offset at why v o i h = absurd i
-bad_plain n form (made.Plain t) value offset at refused.Line v o i h = absurd (too_great (i.small value offset (number_is (term_of n.value) value v) (number_is (term_of n.offset) offset o)) h)
-bad_plain n form (made.Plain t) value offset at refused.Range v o i h = absurd (too_great (i.small value offset (number_is (term_of n.value) value v) (number_is (term_of n.offset) offset o)) h)
+bad_plain n form (made.Plain t) value offset at refused.Line v o i h = absurd (too_great (i.0.small value offset (number_is (term_of n.value) value v) (number_is (term_of n.offset) offset o)) h)
+bad_plain n form (made.Plain t) value offset at refused.Range v o i h = absurd (too_great (i.0.small value offset (number_is (term_of n.value) value v) (number_is (term_of n.offset) offset o)) h)
 
 bad_form : (n : Numbered) (form : Form) (m : Made) (value offset at : ℕ) (why : Refused) (b : Bool) → IsAddressOf (term_of n.value) value → IsAddressOf (term_of n.offset) offset → MatchBool b (m ≡ jump_made n.operation.prefix form.op) (IsPlain n form m) → IsBadMade m value offset at why → MatchBool b (IsBadJump (plain_jump n.operation form) value at why) (IsBadPlain n.operation form value offset why)
 unfolding IsPutMade IsBadMade IsMade IsBadNumbered

@@ -7,3 +7,4 @@ pub mod Pieces
 pub mod Refusals
 pub mod Putting
 pub mod Excluding
+pub mod One

@@ -7,7 +7,7 @@ use Rattle.ia32_decode.specs.declared.instruction.Repeat.{Repeat}
 use Rattle.ia32_decode.specs.declared.instruction.Repeat.TheVariants as repeats
 use Rattle.asm_encode.specs.Operations.{form_of}
 use Rattle.asm_encode.specs.Jumps.{jump_of, jump_length}
-use Rattle.asm_encode.specs.Templates.{bytes_in, IsTemplate, IsFault}
+use Rattle.asm_encode.specs.Templates.{bytes_in, IsTemplate, IsChosenTemplate, IsFault}
 use Rattle.asm_encode.specs.declared.forms.Form.{Form}
 use Rattle.asm_encode.specs.declared.jumps.Jump.{Jump}
 use Rattle.asm_encode.specs.declared.templates.Fault.TheVariants.{NoForm}
@@ -34,7 +34,7 @@ jump_made prefix op = if has_prefix prefix then made.Faulty NoForm else jump_in 
 abbrev pub IsPlain : Numbered → Form → Made → Type 0
 IsPlain n form (made.Faulty fault) = IsFault n.operation form (term_of n.value) (term_of n.offset) fault
 IsPlain n form (made.Jump jump) = ⊥
-IsPlain n form (made.Plain t) = IsTemplate n.operation form (term_of n.value) (term_of n.offset) t
+IsPlain n form (made.Plain t) = IsTemplate n.operation form (term_of n.value) (term_of n.offset) t × IsChosenTemplate n.operation form (term_of n.value) (term_of n.offset) t
 
 abbrev pub IsMadeAs : Numbered → Option Form → Made → Type 0
 IsMadeAs n None m = m ≡ made.Faulty NoForm

@@ -1,20 +1,21 @@
 -- The bytes of lines. (The project's own: docs/ASSEMBLER.md.)
-use Rattle.std.specs.Prelude.{ℕ, ◌≡◌, ◌+◌, ◌*◌, ◌≤◌, ◌<◌, ◌^◌, ◌==◌, true, false, List, [], length, MatchBool, ◌++◌, Some, if◌then◌else◌}
+use Rattle.std.specs.Prelude.{ℕ, ◌≡◌, ◌+◌, ◌*◌, ◌≤◌, ◌<◌, ◌^◌, ◌==◌, true, false, List, [], ◌∷◌, length, MatchBool, ◌++◌, Some, if◌then◌else◌}
 use Rattle.std.specs.Int.{w32, to_le_bytes}
 use Rattle.asm_lines.specs.Values.{Value}
 use Rattle.asm_lines.specs.Statements.{Statement}
 use Rattle.asm_lines.specs.Lines.{Content, Nothing, Label, Octets, Word, Import, Instruction, line_content}
 use Rattle.asm_encode.specs.Operations.{form_of, instruction_of}
 use Rattle.asm_encode.specs.Jumps.{jump_of, jump_length, displacement, fits_in, jump_bytes}
-use Rattle.asm_encode.specs.Templates.{AreWords}
+use Rattle.asm_encode.specs.Templates.{AreWords, filled, IsChosenTemplate}
 use Rattle.asm_encode.specs.declared.operation.Operation.{Operation}
 use Rattle.asm_encode.specs.declared.forms.Form.{Form}
 use Rattle.asm_encode.specs.declared.jumps.Jump.{Jump}
+use Rattle.asm_encode.specs.declared.templates.Template.{Template}
 use Rattle.ia32_decode.specs.Decoding.{Spells}
 use Rattle.ia32_fields.specs.Calls.{call_through}
 use Rattle.ia32_fields.specs.Jumps.{jump as jump_to}
 use Rattle.line_bytes.specs.Tables.{Rows, row_of}
-use Rattle.line_bytes.specs.Numbers.{Numbered, numbered, number_of, number_or_0}
+use Rattle.line_bytes.specs.Numbers.{Numbered, numbered, number_of, number_or_0, term_of}
 use Rattle.line_bytes.specs.Made.{has_prefix}
 use Rattle.line_bytes.specs.declared.piece.Tables.{Tables}
 use Rattle.line_bytes.specs.declared.piece.Met.{Met}
@@ -53,6 +54,12 @@ pub record IsSpelled (o : Operation) (form : Form) (value offset : ℕ) (piece :
 abbrev pub IsFormed : Operation → Form → ℕ → ℕ → ℕ → List ℕ → Type 0
 IsFormed o form value offset at piece = MatchBool form.is_jump (IsJumped o form value at piece) (IsSpelled o form value offset piece)
 
+-- no jump: they are those of its template
+pub record IsFilled (n : Numbered) (form : Form) (value offset : ℕ) (piece : List ℕ) : Type 0 where
+  pub template : Template
+  pub chosen : IsChosenTemplate n.operation form (term_of n.value) (term_of n.offset) template
+  pub bytes : piece ≡ filled template value offset
+
 -- the bytes of an instruction at an address: they spell it, with the addresses of its labels
 pub record IsStated (labels : Rows) (statement : Statement) (at : ℕ) (piece : List ℕ) : Type 0 where
   pub numbers : Numbered
@@ -64,6 +71,7 @@ pub record IsStated (labels : Rows) (statement : Statement) (at : ℕ) (piece : 
   pub form : Form
   pub form_is : form_of numbers.operation ≡ Some form
   pub formed : IsFormed numbers.operation form value offset at piece
+  pub filled : MatchBool form.is_jump (Unit {0}) (IsFilled numbers form value offset piece)
 
 -- a call through the word of an import; a new import's word is behind those that were met
 pub record IsCall (t : Tables) (met : ℕ) (name piece : List ℕ) (next : ℕ) : Type 0 where
@@ -71,6 +79,7 @@ pub record IsCall (t : Tables) (met : ℕ) (name piece : List ℕ) (next : ℕ) 
   pub number : ℕ
   pub row : row_of t.imports name ≡ Some (place, number)
   pub known : place ≤ met
+  pub bytes : piece ≡ 0xFF ∷ 0x15 ∷ to_le_bytes w32 (t.words + 4 * place)
   pub spelled : Spells piece (call_through (t.words + 4 * place))
   pub count : next ≡ (if place == met then met + 1 else met)
 

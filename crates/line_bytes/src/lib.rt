@@ -13,7 +13,7 @@ mod piece;
 mod refused;
 mod table;
 
-pub use excluding::bytes_exclude_refusal;
+pub use excluding::{bytes_exclude_refusal, made_is_one, piece_is_one, reason_is_one};
 pub use made::{Made, made_in, size_in};
 pub use piece::{MOST, Met, TEXT, Tables, put_content, put_line};
 pub use refused::Refused;

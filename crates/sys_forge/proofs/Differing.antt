@@ -1,9 +1,9 @@
 -- How the words by which two byte strings differ are found.
-use Rattle.std.proofs.Common.{◌≡◌, ℕ, ◌+◌, ◌≤◌, inl, inr, List, [], ◌∷◌, ◌++◌, length, take, drop, refl, sym, ap, subst, ◌∙◌, append_assoc, append-nil, length-append, arith}
+use Rattle.std.proofs.Common.{◌≡◌, ℕ, ◌+◌, ◌≤◌, inl, inr, List, [], ◌∷◌, ◌++◌, length, take, drop, refl, sym, ap, subst, ◌∙◌, append_assoc, length-append, arith}
 use Rattle.std.proofs.lemmas.List.{take-append-drop}
 use Rattle.std.proofs.Math.Seq.{take-append_seam, drop-append-add}
 use Rattle.sys_forge.specs.Moved.{word_moved, with_word, with_words}
-use Rattle.sys_forge.specs.Places.{noted, IsStep, IsSame, IsMovedWord}
+use Rattle.sys_forge.specs.Places.{noted, IsStep}
 
 -- in front the words are moved, and what is left is as it was
 pub record IsFoundSoFar (bytes others left ours : List ℕ) (at : ℕ) (places : List ℕ) : Type 0 where

@@ -4,3 +4,4 @@ pub mod RowLaws
 pub mod Settling
 pub mod Planning
 pub mod Excluded
+pub mod One

@@ -1,12 +1,12 @@
 -- Lines have their bytes one behind the other, and labels stand where these lines have so many bytes.
-use Rattle.std.proofs.Common.{◌≡◌, ℕ, ◌+◌, ◌*◌, ◌<◌, ◌≤◌, ◌^◌, ◌⊎◌, inl, inr, Bool, true, false, cond, ◌||◌, ◌==◌, List, [], ◌∷◌, ◌++◌, length, Option, None, Some, is_some, refl, sym, ap, ◌∙◌, subst, ⊎_elim, append_assoc, append-nil, length-append, zero-add, arith}
+use Rattle.std.proofs.Common.{◌≡◌, ℕ, ◌+◌, ◌*◌, ◌<◌, ◌≤◌, ◌⊎◌, inl, inr, Bool, true, false, cond, ◌||◌, ◌==◌, List, [], ◌∷◌, ◌++◌, length, Option, None, Some, is_some, refl, sym, ap, ◌∙◌, subst, ⊎_elim, append_assoc, append-nil, length-append, zero-add, arith}
 use Rattle.std.specs.Prelude.{nat_le}
 use Rattle.std.proofs.lemmas.Bool.{cond-true, false≢true, or_cases, le-leb}
 use Rattle.asm_lines.specs.Lines.{Content, Nothing, Label, Octets, Word, Import, Instruction, line_content}
 use Rattle.line_bytes.specs.Tables.{Rows, place_of, row_of, with_row}
 use Rattle.line_bytes.specs.Made.{IsMadeIn, size_in}
 use Rattle.line_bytes.specs.Pieces.{IsPiece, IsLine}
-use Rattle.line_bytes.specs.Refusals.{IsBadContent, IsBadIn, IsTooLong, IsRefusal}
+use Rattle.line_bytes.specs.Refusals.{IsBadContent, IsBadIn, IsRefusal}
 use Rattle.line_bytes.specs.Putting.{IsBadLabel, IsBadImport, IsBadRow, IsNotPut}
 use Rattle.line_bytes.specs.declared.made.Made.{Made}
 use Rattle.line_bytes.specs.declared.piece.Tables.{Tables}
@@ -301,7 +301,7 @@ at-line t all left others line m made rest out met number s e w = subst (λ (ls 
 pub made_next : (t : Tables) (all left others : List (List ℕ)) (line : List ℕ) (m : Option Made) (made rest : List (Option Made)) (out : List ℕ) (met : Met) (number : ℕ) → IsStandingSoFar t all left made out met number → left ≡ line ∷ others → made ≡ m ∷ rest → IsMadeIn (line_content line) m
 made_next t all left others line m made rest out met number s e w = made_at left others line m made rest s.are e w
 
-pub refused-here : (text : List ℕ) (t : Tables) (others : List (List ℕ)) (line : List ℕ) (m : Option Made) (made : List (Option Made)) (out : List ℕ) (met : Met) (number : ℕ) (why : Refused) → IsSettled text t → IsStandingSoFar t (lines text) (line ∷ others) (m ∷ made) out met number → t.words ≤ 0x80500000 → 4 * met.imports ≤ 0x3FF000 → IsNotPut t met (length out) line why → IsRefusedAt text number why
+pub refused-here : (text : List ℕ) (t : Tables) (others : List (List ℕ)) (line : List ℕ) (m : Option Made) (made : List (Option Made)) (out : List ℕ) (met : Met) (number : ℕ) (why : Refused) → IsSettled text t → IsStandingSoFar t (lines text) (line ∷ others) (m ∷ made) out met number → t.words ≤ 0x80500000 → length out + 4 * met.imports ≤ 0x3FF000 → IsNotPut t met (length out) line why → IsRefusedAt text number why
 refused-here text t others line m made out met number why settled s w k h = record {
   tables = t;
   settled = settled;
@@ -313,7 +313,8 @@ refused-here text t others line m made out met number why settled s w k h = reco
   bytes = out;
   met = met;
   put = s.put;
-  refused = refused-line t (lines text) others line m made out met number why s w k h;
+  room = k;
+  refused = refused-line t (lines text) others line m made out met number why s w (omega (arith, k)) h;
 }
 
 pub refused-text : (text : List ℕ) (number : ℕ) (why : Refused) → IsRefusedAt text number why → IsRefusedText text (refusal_at why number)

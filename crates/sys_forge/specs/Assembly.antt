@@ -61,7 +61,7 @@ IsWanting name refused.OutOfMemory = Unit {0}
 IsWanting name refused.Line = ⊥
 IsWanting name refused.Range = ⊥
 
--- the lines in front have their bytes, and the line has none, where labels stand by the lines in front of them
+-- the lines in front have their bytes, which fit, and the line has none, where labels stand by the lines in front of them
 pub record IsRefusedAt (text : List ℕ) (number : ℕ) (why : Refused) : Type 0 where
   pub tables : Tables
   pub settled : IsSettled text tables
@@ -73,6 +73,7 @@ pub record IsRefusedAt (text : List ℕ) (number : ℕ) (why : Refused) : Type 0
   pub bytes : List ℕ
   pub met : Met
   pub put : Puts tables 0 none_met front bytes met
+  pub room : length bytes + 4 * met.imports ≤ 0x3FF000
   pub refused : IsRefusal (IsRepeated front) IsWanting tables met (length bytes) line why
 
 abbrev pub IsRefusedText : List ℕ → ForgeRefusal → Type 0

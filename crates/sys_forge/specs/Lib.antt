@@ -5,3 +5,4 @@ pub mod Moved
 pub mod Places
 pub mod Whole
 pub mod Excluding
+pub mod One

@@ -15,5 +15,8 @@ mod plan;
 mod refusal;
 
 pub use assembly::{Assembled, assemble, assemble_with_places, line_count};
-pub use excluding::lines_exclude_refusal;
+pub use excluding::{
+    assembled_is_assembly, assembled_is_one, assembly_excludes_refusal, assembly_is_one,
+    lines_exclude_refusal, refusal_is_one,
+};
 pub use refusal::ForgeRefusal;

@@ -1,4 +1,4 @@
-use Rattle.std.proofs.Common.{ℕ, ◌+◌, ◌≤◌, List, Option, length, sym, ap, subst, ◌∙◌, arith}
+use Rattle.std.proofs.Common.{ℕ, List, Option, length, sym, ap, subst, arith}
 use Rattle.std.specs.Str.Lines.{lines}
 use Rattle.line_bytes.specs.declared.made.Made.{Made}
 use Rattle.sys_forge.specs.Assembly.{none_met, IsRefusedText}
@@ -46,7 +46,7 @@ returns-in-Err c =
     let s = at-line t (lines c.args.text.now) (lines c.loop-rest.rest.now) (lines c.next_line.result.1.now) c.next_line.result.0.now c.in-Some.made.now c.loop-rest.left.now c.in-Some.behind.now c.loop-rest.out c.loop-rest.met c.loop-rest.number
     i.so_far c.next_line.ensures.lines c.in-Some.ensures.cases.0 in
     let at = refused-here c.args.text.now t (lines c.next_line.result.1.now) c.next_line.result.0.now c.in-Some.made.now c.in-Some.behind.now c.loop-rest.out c.loop-rest.met c.loop-rest.number c.in-Err.refused
-    (record { made = c.args.plan.now.made.items; are = c.requires.made; is = c.requires.laid }) s c.requires.low (omega (arith, i.room)) c.in-Err.ensures.err in
+    (record { made = c.args.plan.now.made.items; are = c.requires.made; is = c.requires.laid }) s c.requires.low i.room c.in-Err.ensures.err in
     record { ok = tt; err = subst (λ (w : ForgeRefusal). IsRefusedText c.args.text.now w) (sym c.refusal_at.ensures) (refused-text c.args.text.now c.loop-rest.number c.in-Err.refused at) }
 
 pub put_line-requires-clause-made : goal.put_line-requires-clause-made

@@ -1,4 +1,4 @@
-use Rattle.std.proofs.Common.{◌≡◌, ◌+◌, ℕ, List, [], length, drop, sym, subst, arith}
+use Rattle.std.proofs.Common.{◌+◌, ℕ, List, drop, sym, subst, arith}
 use Rattle.sys_forge.specs.Places.{noted}
 use Rattle.sys_forge.proofs.Differing.{IsFoundSoFar, found-begun, found-step}
 use Rattle.sys_forge.proofs.places.places.Goals as goal

@@ -1,4 +1,4 @@
-use Rattle.std.proofs.Common.{◌≡◌, ◌+◌, ◌≤◌, length}
+use Rattle.std.proofs.Common.{◌≡◌, ◌+◌, length}
 use Rattle.sys_forge.proofs.Differing.{IsFoundSoFar}
 use Rattle.sys_forge.proofs.places.places.Given as goal
 

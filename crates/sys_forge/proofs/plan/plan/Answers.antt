@@ -1,10 +1,9 @@
-use Rattle.std.proofs.Common.{ℕ, ◌+◌, List, Option, sym, ap, subst, ◌∙◌, arith}
+use Rattle.std.proofs.Common.{◌+◌, Option, sym, ap, subst, ◌∙◌, arith}
 use Rattle.std.specs.Str.Lines.{lines}
 use Rattle.std.specs.Option.{option_map}
 use Rattle.asm_lines.specs.Lines.{Content, content_seen}
 use Rattle.line_bytes.specs.Made.{IsMadeIn}
 use Rattle.line_bytes.specs.Putting.{AreWide}
-use Rattle.line_bytes.specs.Tables.{Rows}
 use Rattle.line_bytes.specs.declared.piece.Tables.{Tables}
 use Rattle.sys_forge.specs.Standing.{past}
 use Rattle.sys_forge.proofs.Planning.{planned-none, planned-more, planned-all, wide-none, wide-line, wide-past, wide-at, empty-lines}

@@ -1,4 +1,4 @@
-use Rattle.std.proofs.Common.{◌≡◌, ◌≤◌, length}
+use Rattle.std.proofs.Common.{◌≤◌, length}
 use Rattle.std.specs.Str.Lines.{lines}
 use Rattle.line_bytes.specs.Putting.{AreWide}
 use Rattle.sys_forge.proofs.Planning.{IsPlanned}

@@ -39,7 +39,7 @@ use Rattle.run_facts.proofs.Counts.{AdaptersGiven, sized}
 use Rattle.run_facts.proofs.Inside.{HandlersStand, handlers_stand, inside}
 use Rattle.run_facts.proofs.Levels.{filtered}
 
-abbrev standing : Adapter → Bool
+abbrev pub standing : Adapter → Bool
 standing row = not (is_stopped row.phase)
 
 -- ---- what stands behind an entry stood before it
@@ -144,19 +144,19 @@ run_stood c s e a meets its is = stood s.owner e a meets.owner its is
 
 -- ---- what may stand where stops are due
 
-abbrev due_in : Next → ℕ → Bool
+abbrev pub due_in : Next → ℕ → Bool
 due_in n a = list_any (λ b. b == a) (stops_due n)
 
-abbrev is_calm : OwnerNext → Bool
+abbrev pub is_calm : OwnerNext → Bool
 is_calm nexts.Free = true
 is_calm (nexts.Tail a) = true
 is_calm _ = false
 
-abbrev is_tail : OwnerNext → Bool
+abbrev pub is_tail : OwnerNext → Bool
 is_tail (nexts.Tail a) = true
 is_tail _ = false
 
-abbrev ends : Entry → Bool
+abbrev pub ends : Entry → Bool
 ends (entries.Complete _ _) = true
 ends (entries.Back _ _) = true
 ends (entries.Answer _ _ _) = true
@@ -189,7 +189,7 @@ calm_ends o nexts.Free d e calm is h = absurd (cc)
 calm_ends o (nexts.Tail a) d e calm is h = (tail_ends o (position (out_of a.0) o.packets) (position (away_of a.0) o.loans) (position (open_of a.0) o.requests) d e is h, refl)
 calm_ends o _ d e calm is h = absurd (cc)
 
-abbrev Among : State → Entry → ℕ → Cause → Type 0
+abbrev pub Among : State → Entry → ℕ → Cause → Type 0
 Among s e b why = ((ends e ≡ true) × (is_tail s.owner.next ≡ true)) ⊎ (e ≡ entries.Stop (adapter b) why)
 
 no_break : (c : Inputs) (s : State) (e : Entry) → is_memory_stop e ≡ false → breaks_in c s e ≡ true → ⊥
@@ -202,7 +202,7 @@ must_stops : (s : State) (why : Cause) (b : ℕ) (ats : List ℕ) → s.next ≡
 unfolding must
 must_stops s why b ats is = ap (λ n. option_or (taken_first n) (option_or (option_map Owes (owner_must s.owner)) (next_must n))) is
 
-among : (c : Inputs) (s : State) (e : Entry) (why : Cause) (b : ℕ) (ats : List ℕ) → s.next ≡ Stops why (b ∷ ats) → is_calm s.owner.next ≡ true → is_memory_stop e ≡ false → Meets c s e → Among s e b why
+pub among : (c : Inputs) (s : State) (e : Entry) (why : Cause) (b : ℕ) (ats : List ℕ) → s.next ≡ Stops why (b ∷ ats) → is_calm s.owner.next ≡ true → is_memory_stop e ≡ false → Meets c s e → Among s e b why
 among c s e why b ats is calm fed meets = elim meets.turn [
   | inl h ↦ by_owner (owner_must s.owner) refl (subst (λ (d : Option Due). MatchOption d (freely c s e ≡ true) (λ due. Serves c s due e)) (must_stops s why b ats is) h)
   | inr h ↦ absurd (no_break c s e fed h)
@@ -215,14 +215,14 @@ among c s e why b ats is calm fed meets = elim meets.turn [
 
 -- ---- adapters that are due
 
-record IsDueIn (n : Next) (a : ℕ) : Type 0 where
+pub record IsDueIn (n : Next) (a : ℕ) : Type 0 where
   pub why : Cause
   pub first : ℕ
   pub ats : List ℕ
   pub next : n ≡ Stops why (first ∷ ats)
   pub among : list_any (λ b. b == a) (first ∷ ats) ≡ true
 
-found : (n : Next) (a : ℕ) → due_in n a ≡ true → IsDueIn n a
+pub found : (n : Next) (a : ℕ) → due_in n a ≡ true → IsDueIn n a
 found (Stops why []) a h = absurd (cc)
 found (Stops why (b ∷ ats)) a h = record { why = why; first = b; ats = ats; next = refl; among = h }
 found _ a h = absurd (cc)
@@ -336,11 +336,11 @@ one_cost : Sums → (c : Inputs) (s : State) (e : Entry) (a : ℕ) → a < lengt
 unfolding now_from costs
 one_cost sums c s e a less = let h = sums c s (e ∷ []) a less in omega (arith, h)
 
-record Spends (c : Inputs) (s : State) : Type 0 where
+pub record Spends (c : Inputs) (s : State) : Type 0 where
   pub due : (a : ℕ) → a < length c.adapters → stands s.owner a ≡ true → nat_le c.budget (charges_of s a) ≡ true → due_in s.next a ≡ true
   pub calm : (a : ℕ) → due_in s.next a ≡ true → is_calm s.owner.next ≡ true
 
-plus_none : (k : ℕ) → k + 0 ≡ k
+pub plus_none : (k : ℕ) → k + 0 ≡ k
 plus_none k = omega arith
 
 free_due : (c : Inputs) (s : State) (e : Entry) (a : ℕ) → Spends c s → is_memory_stop e ≡ false → Meets c s e → a < length c.adapters → stands s.owner a ≡ true
@@ -429,7 +429,7 @@ step_calm c s e a spends fed meets is = other_calm c s e a spends refl fed meets
 
 -- ---- over a run
 
-its_stands : HandlersStand → (c : Inputs) (s : State) → IsOfRun c s → (x : ℕ) → ItsStands s.owner (slice_get s.owner.contexts x)
+pub its_stands : HandlersStand → (c : Inputs) (s : State) → IsOfRun c s → (x : ℕ) → ItsStands s.owner (slice_get s.owner.contexts x)
 its_stands stand c s is x = by_row (slice_get s.owner.contexts x) refl
   where
     by_row : (m : Option Context) → slice_get s.owner.contexts x ≡ m → ItsStands s.owner m
@@ -458,7 +458,7 @@ fed_from sums stand c s (e ∷ log) is h run fed =
     let parts = fed_parts (is_memory_stop e) (list_any is_memory_stop log) fed in
     fed_from sums stand c (after c s e) log (goes c s e is run.0) (step sums stand c s e is h parts.0 run.0) run.1 parts.1
 
-zero_at : (n a : ℕ) → slice_index_or {A = ℕ} (replicate n 0) a 0 ≡ zero
+pub zero_at : (n a : ℕ) → slice_index_or {A = ℕ} (replicate n 0) a 0 ≡ zero
 zero_at zero a = refl
 zero_at (suc n) zero = refl
 zero_at (suc n) (suc a) = zero_at n a
@@ -472,14 +472,14 @@ begun c some = record {
   calm = λ a due. refl;
 }
 
-spends : Sums → HandlersStand → (c : Inputs) (s : State) → 0 < c.budget → IsFed c s → Spends c s
+pub spends : Sums → HandlersStand → (c : Inputs) (s : State) → 0 < c.budget → IsFed c s → Spends c s
 spends sums stand c s some fed = subst (Spends c) fed.is.reaches.state (fed_from sums stand c (start c) fed.is.log (begins c) (begun c some) fed.is.reaches.run fed.fed)
 
 pub due : Sums → HandlersStand → (c : Inputs) (s : State) (a : ℕ) → 0 < c.budget → IsFed c s → a < length c.adapters → stands s.owner a ≡ true → nat_le c.budget (charges_of s a) ≡ true
     → list_any (λ b. b == a) (stops_due s.next) ≡ true
 due sums stand c s a some fed less there spent = (spends sums stand c s some fed).due a less there spent
 
-none_due : (s : State) (a : ℕ) → must s ≡ None → due_in s.next a ≡ true → ⊥
+pub none_due : (s : State) (a : ℕ) → must s ≡ None → due_in s.next a ≡ true → ⊥
 none_due s a none h =
     let d = found s.next a h in
     by_owner d.why d.first (owner_must s.owner) (sym (must_stops s d.why d.first d.ats d.next) ∙ none)

@@ -53,7 +53,7 @@ suc_suc k y = by_test (k == y) refl
     by_test true is = grind arith
     by_test false is = grind arith
 
-zero_plus : (k : ℕ) → 0 + k ≡ k
+pub zero_plus : (k : ℕ) → 0 + k ≡ k
 zero_plus k = omega arith
 
 yes : (b : Bool) → b ≡ (b && true)
@@ -82,7 +82,7 @@ set_agree (p ∷ os) (m ∷ ls) zero o l long is h (suc y) = h (suc y)
 set_agree (p ∷ os) (m ∷ ls) (suc k) o l long is h zero = h zero
 set_agree (p ∷ os) (m ∷ ls) (suc k) o l long is h (suc y) = set_agree os ls k o l (omega (arith, long)) is (λ z. h (suc z)) y
 
-kept : {A : Type 0} (test : A → Bool) (f : A → A) (rows : List A) (j k : ℕ) → ((row : A) → test (f row) ≡ test row) → at test (change f rows j) k ≡ at test rows k
+pub kept : {A : Type 0} (test : A → Bool) (f : A → A) (rows : List A) (j k : ℕ) → ((row : A) → test (f row) ≡ test row) → at test (change f rows j) k ≡ at test rows k
 kept test f [] j k w = refl
 kept test f (row ∷ rows) zero zero w = w row
 kept test f (row ∷ rows) zero (suc k) w = refl
@@ -158,7 +158,7 @@ stopped_open a false os y = some_open a os y
 
 -- ---- the last adapter's stop
 
-abbrev has_stopped : Adapter → Bool
+abbrev pub has_stopped : Adapter → Bool
 has_stopped row = is_stopped row.phase
 
 changed_at : (rows : List Adapter) (a k : ℕ) → k < length rows → ((k == a) || at has_stopped rows k) ≡ at has_stopped (change stopped_row rows a) k
@@ -168,7 +168,7 @@ changed_at (row ∷ rows) zero (suc k) less = rw (suc_zero k) refl
 changed_at (row ∷ rows) (suc a) zero less = rw (zero_suc a) refl
 changed_at (row ∷ rows) (suc a) (suc k) less = rw (suc_suc k a) (changed_at rows a k (omega (arith, less)))
 
-all_numbers : (p : ℕ → Bool) (rows : List Adapter) (xs : List Given) (n : ℕ) → length rows ≡ length xs → ((k : ℕ) → k < length rows → p (n + k) ≡ at has_stopped rows k)
+pub all_numbers : (p : ℕ → Bool) (rows : List Adapter) (xs : List Given) (n : ℕ) → length rows ≡ length xs → ((k : ℕ) → k < length rows → p (n + k) ≡ at has_stopped rows k)
     → list_all p (numbers n xs) ≡ list_all has_stopped rows
 all_numbers p [] [] n long h = refl
 all_numbers p [] (x ∷ xs) n long h = absurd (cc)
@@ -184,7 +184,7 @@ all_numbers p (row ∷ rows) (x ∷ xs) n long h =
     plus_suc : (n k : ℕ) → suc n + k ≡ n + suc k
     plus_suc n k = omega arith
 
-length_changed : {A : Type 0} (f : A → A) (rows : List A) (k : ℕ) → length (change f rows k) ≡ length rows
+pub length_changed : {A : Type 0} (f : A → A) (rows : List A) (k : ℕ) → length (change f rows k) ≡ length rows
 length_changed f [] k = refl
 length_changed f (row ∷ rows) zero = refl
 length_changed f (row ∷ rows) (suc k) = ap suc (length_changed f rows k)
@@ -357,16 +357,16 @@ picked_keeps : (s : State) (reply : ℕ → Reply) (w : ℕ → World) (o : Opti
 picked_keeps s reply w None h = tt
 picked_keeps s reply w (Some a) h = h a
 
-outcome_answers : (s : State) (told : Told) (more : List Write) (o : Outcome) → KeepsIn s.world o → AnswerKeeps s (by_outcome s.world told more o)
-outcome_answers s told more (Replies reply w) h = told_keeps s told more reply w h
-outcome_answers s told more (Picks n reply w) h = picked_keeps s reply w _ h
-outcome_answers s told more (PicksDescriptor kind handle reply w) h = picked_keeps s reply w _ h
-outcome_answers s told more (Breaks rule) h = tt
-outcome_answers s told more (Spins holder w) h = tt
-outcome_answers s told more (Sleeps moment) h = tt
-outcome_answers s told more Synchronizes h = tt
+outcome_answers : (a : Option AdapterNo) (s : State) (told : Told) (more : List Write) (o : Outcome) → KeepsIn a s.world o → AnswerKeeps s (by_outcome s.world told more o)
+outcome_answers a s told more (Replies reply w) h = told_keeps s told more reply w h.levels
+outcome_answers a s told more (Picks n reply w) h = picked_keeps s reply w _ (λ k. (h k).levels)
+outcome_answers a s told more (PicksDescriptor kind handle reply w) h = picked_keeps s reply w _ (λ k. (h k).levels)
+outcome_answers a s told more (Breaks rule) h = tt
+outcome_answers a s told more (Spins holder w) h = tt
+outcome_answers a s told more (Sleeps moment) h = tt
+outcome_answers a s told more Synchronizes h = tt
 
-row_keeps : (s : State) (x : CtxNo) (import : ℕ) (words : List ℕ) → KeepsIn s.world (outcome_of s x import words)
+row_keeps : (s : State) (x : CtxNo) (import : ℕ) (words : List ℕ) → KeepsIn (adapter_of s x.0) s.world (outcome_of s x import words)
 row_keeps s x import words = outcome_keeps s.world (caller s x) (row_of import) words
 
 wait_answers : (s : State) (x : CtxNo) (told : Told) (call : Calling) (w : Wait) → AnswerKeeps s (answered_by s x told call w)
@@ -374,8 +374,8 @@ wait_answers s x told call (OnSync (Left eax)) = told_keeps s told [] (resumed c
 wait_answers s x told call (OnSync Needed) = tt
 wait_answers s x told call (OnSync Entered) = tt
 wait_answers s x told call (OnClock wake) = told_keeps s told [] (resumed call.import 0) s.world (alike s.world.levels)
-wait_answers s x told call Nothing = outcome_answers s told call.writes (outcome_of s x call.import call.words) (row_keeps s x call.import call.words)
-wait_answers s x told call (OnLock lock) = outcome_answers s told call.writes (outcome_of s x call.import call.words) (row_keeps s x call.import call.words)
+wait_answers s x told call Nothing = outcome_answers (adapter_of s x.0) s told call.writes (outcome_of s x call.import call.words) (row_keeps s x call.import call.words)
+wait_answers s x told call (OnLock lock) = outcome_answers (adapter_of s x.0) s told call.writes (outcome_of s x call.import call.words) (row_keeps s x call.import call.words)
 
 answer_keeps : (s : State) (x : CtxNo) (told : Told) → AnswerKeeps s (answered s x told)
 answer_keeps s x told = by_call (call_at s x.0)
@@ -392,18 +392,18 @@ replied_levels s x told None h = alike s.world.levels
 replied_levels s x told (Some given) h =
     alike_as s.world.levels given.1.levels _ (charged_levels _ (adapter_of s x.0) given.0.cost ∙ quiet_levels s _ (adapter_of s x.0)) h
 
-spinning_levels : (s : State) (o : Outcome) → KeepsIn s.world o → OpenAlike s.world.levels (world_spinning s.world o).levels
-spinning_levels s (Spins holder w) h = h
-spinning_levels s (Breaks rule) h = alike s.world.levels
-spinning_levels s (Replies reply w) h = alike s.world.levels
-spinning_levels s (Picks n reply w) h = alike s.world.levels
-spinning_levels s (PicksDescriptor kind handle reply w) h = alike s.world.levels
-spinning_levels s (Sleeps moment) h = alike s.world.levels
-spinning_levels s Synchronizes h = alike s.world.levels
+spinning_levels : (a : Option AdapterNo) (s : State) (o : Outcome) → KeepsIn a s.world o → OpenAlike s.world.levels (world_spinning s.world o).levels
+spinning_levels a s (Spins holder w) h = h.levels
+spinning_levels a s (Breaks rule) h = alike s.world.levels
+spinning_levels a s (Replies reply w) h = alike s.world.levels
+spinning_levels a s (Picks n reply w) h = alike s.world.levels
+spinning_levels a s (PicksDescriptor kind handle reply w) h = alike s.world.levels
+spinning_levels a s (Sleeps moment) h = alike s.world.levels
+spinning_levels a s Synchronizes h = alike s.world.levels
 
 spun_levels : (s : State) (x : CtxNo) (call : Option Calling) → OpenAlike s.world.levels (spun s x call).world.levels
 spun_levels s x None = alike s.world.levels
-spun_levels s x (Some call) = spinning_levels s (outcome_of s x call.import call.words) (row_keeps s x call.import call.words)
+spun_levels s x (Some call) = spinning_levels (adapter_of s x.0) s (outcome_of s x call.import call.words) (row_keeps s x call.import call.words)
 
 -- ---- over a run
 

@@ -4,5 +4,13 @@ pub mod OpenCalls
 pub mod StaysOpen
 pub mod Levels
 pub mod Inside
-pub mod Ready
 pub mod Budgets
+pub mod Parts
+pub mod Given
+pub mod Starts
+pub mod Early
+pub mod Ready
+pub mod EntryBudget
+pub mod Periods
+pub mod Expired
+pub mod Answerable

@@ -1,6 +1,6 @@
 -- What holds in every state of a run. Each of the last types is the contract of a function of src/laws.rt that does nothing. (What a run and its states
 -- are: crates/legal_run/specs/Run.antt and State.antt; the project's own: docs/LEGAL-RUN.md.)
-use Rattle.std.specs.Prelude.{◌≡◌, ◌<◌, ℕ, ◌==◌, true, false, nat_le, List, [], length, Option, Some, None}
+use Rattle.std.specs.Prelude.{◌≡◌, ◌<◌, ◌≤◌, ℕ, ◌+◌, ◌^◌, ◌==◌, true, false, nat_le, List, [], length, Option, Some, None, IsSome}
 use Rattle.std.specs.List.{list_any}
 use Rattle.nd_base.specs.declared.numbers.AdapterNo.{AdapterNo}
 use Rattle.nd_base.specs.declared.numbers.CtxNo.{CtxNo}
@@ -9,11 +9,14 @@ use Rattle.log_fields.specs.declared.write.Write.{Write}
 use Rattle.log_fields.specs.declared.field_values.Handler.{Handler}
 use Rattle.call_log.specs.declared.entry.Entry.{Entry}
 use Rattle.call_log.specs.declared.entry.Entry.TheVariants as entries
+use Rattle.guest_world.specs.Worlds.{CanAnswer, IsIdle, longest_time}
+use Rattle.import_answers.specs.World.{IsNumber}
+use Rattle.calls_ports.specs.Cards.{HasAdapter}
 use Rattle.owner_machine.specs.State.{at, stands}
 use Rattle.owner_machine.specs.Contexts.{is_at_work, is_calling}
-use Rattle.legal_run.specs.State.{Inputs, State, Calling, Next, Stops, start, adapter_of, call_at, is_free, is_open}
-use Rattle.legal_run.specs.After.{after, charges_of, reaches}
-use Rattle.legal_run.specs.Must.{must}
+use Rattle.legal_run.specs.State.{Inputs, State, Calling, Next, Stops, start, adapter_of, call_at, caller, clock, is_free, is_open, part_of}
+use Rattle.legal_run.specs.After.{after, charges_of, hang_period, reaches}
+use Rattle.legal_run.specs.Must.{ReplyOf, must}
 use Rattle.legal_run.specs.Run.{Meets, Reaches, is_going, is_memory_stop}
 
 -- ---- states of runs
@@ -82,9 +85,28 @@ pub record MayHold (c : Inputs) (s : State) (a : Option AdapterNo) (x : CtxNo) :
   pub inside : (n : AdapterNo) → a ≡ Some n → n.0 < length c.adapters
 
 pub record ContextsAreReady : Type 0 where
+  pub numbers : (c : Inputs) (s : State) (x : ℕ) → IsOfRun c s → is_open s x ≡ true → x < 16
   pub goes : (c : Inputs) (s : State) (x : CtxNo) → IsOfRun c s → is_going c s x ≡ true → IsReady s x
   pub enters : (c : Inputs) (s : State) (a : Option AdapterNo) (x : CtxNo) (h : Handler) (words : List ℕ) (writes : List Write) → IsOfRun c s
       → Meets c s (entries.Enter a x h words writes) → MayHold c s a x
+  -- its handler has sixteen words at most
+  pub few : (c : Inputs) (s : State) (a : Option AdapterNo) (x : CtxNo) (h : Handler) (words : List ℕ) (writes : List Write) → IsOfRun c s → Meets c s (entries.Enter a x h words writes) → length words ≤ 16
+
+-- ---- answers
+
+-- what the answer of a call needs (crates/guest_calls); there are four adapters at most
+pub record CallsCanBeAnswered : Type 0 where
+  -- a context whose reply is due is open
+  pub due : (c : Inputs) (s : State) (x : CtxNo) → IsOfRun c s → must s ≡ Some (ReplyOf x) → is_open s x.0 ≡ true
+  -- no frame that a card sent waits to be taken, and each adapter that was given has its part of the world
+  pub idle : (c : Inputs) (s : State) → IsOfRun c s → IsIdle s.world
+  pub parts : (c : Inputs) (s : State) (a : ℕ) → length c.adapters ≤ 4 → IsOfRun c s → a < length c.adapters → IsSome (part_of s a)
+  -- a call of an open context can be answered, and so can one of a context that goes on, while the clock has room for the longest time that a call names
+  pub can : (c : Inputs) (s : State) (x : CtxNo) → IsOfRun c s → is_open s x.0 ≡ true → clock s + longest_time < 2 ^ 64 → CanAnswer s.world (caller s x)
+  pub goes : (c : Inputs) (s : State) (x : CtxNo) → IsOfRun c s → is_going c s x ≡ true → clock s + longest_time < 2 ^ 64 → CanAnswer s.world (caller s x)
+  -- its adapter is one of four, and is there
+  pub number : (c : Inputs) (s : State) (x : CtxNo) → length c.adapters ≤ 4 → IsOfRun c s → IsNumber (adapter_of s x.0)
+  pub there : (c : Inputs) (s : State) (x : CtxNo) → length c.adapters ≤ 4 → IsOfRun c s → HasAdapter s.world (adapter_of s x.0)
 
 -- ---- budgets
 
@@ -106,3 +128,20 @@ pub record SpentAreDue : Type 0 where
       → list_any (λ b. b == a) (stops_due s.next) ≡ true
   -- so where nothing must stand, no context of an adapter has reached its budget
   pub unspent : (c : Inputs) (s : State) (x : CtxNo) (a : AdapterNo) → 0 < c.budget → IsFed c s → must s ≡ None → adapter_of s x.0 ≡ Some a → reaches c s x 0 ≡ false
+  -- where there is an adapter, no context has that goes on where nothing must stand: DriverEntry's too, which is charged to every adapter
+  pub turns : (c : Inputs) (s : State) (x : CtxNo) → 0 < c.budget → 0 < length c.adapters → IsFed c s → must s ≡ None → is_going c s x ≡ true → reaches c s x 0 ≡ false
+  -- nor has one whose call is answered
+  pub replies : (c : Inputs) (s : State) (x : CtxNo) (eax : ℕ) (writes : List Write) → 0 < c.budget → 0 < length c.adapters → IsFed c s → Meets c s (entries.Reply x eax writes)
+      → reaches c s x 0 ≡ false
+
+-- ---- hang checks
+
+-- the period of an adapter's hang checks is no longer than the longest time that a call names
+abbrev pub PeriodsAreShort : Type 0
+PeriodsAreShort = (c : Inputs) (s : State) (a : ℕ) → IsOfRun c s → hang_period s a ≤ longest_time
+
+-- ---- expirations
+
+-- no more timers and hang checks have expired than there are entries
+abbrev pub ExpirationsAreFew : Type 0
+ExpirationsAreFew = (c : Inputs) (s : State) (log : List Entry) → Reaches c log s → s.expired ≤ length log

@@ -5,6 +5,7 @@
 mod laws;
 
 pub use laws::{
-    adapters_are_given, calls_agree, contexts_are_ready, levels_agree, lists_keep_their_lengths,
-    runs_go_on, spent_are_due,
+    adapters_are_given, calls_agree, calls_can_be_answered, contexts_are_ready,
+    expirations_are_few, levels_agree, lists_keep_their_lengths, periods_are_short, runs_go_on,
+    spent_are_due,
 };

@@ -14,7 +14,7 @@ use Rattle.legal_run.specs.Replies.{Answered, Told, answered}
 use Rattle.legal_run.specs.After.{after, charge_to, with_wait, taken, fired, left_row, replied, spun, is_breaking, recognized, number_in, expired_after}
 use Rattle.legal_run.specs.Owed.{sync_caller}
 use Rattle.legal_run.specs.VerdictLaws.{is_send}
-use Rattle.run_moves.specs.Runs.{expirations}
+use Rattle.run_moves.specs.Runs.{expirations, changes_book_alone, makes_progress, progressed}
 use Rattle.run_course.specs.Shown.{Shows}
 use Rattle.run_course.specs.declared.course.Course.{Course}
 
@@ -110,3 +110,15 @@ enter c s a x h words writes k none shown =
     expired handler.Timer = refl
     expired handler.CheckForHang = refl
     expired _ = refl
+
+pub noted : (c : Inputs) (s : State) (e : Entry) (k : Course) → changes_book_alone e ≡ true → Shows s k → Shows (after c s e) (record k { expired = progressed k.expired (makes_progress e) })
+noted c s (entries.Tag _ _) k alone h = record { hearings = h.hearings; frames = h.frames; loans = h.loans; arrivals = h.arrivals; expirations = h.expirations }
+noted c s (entries.Hand _) k alone h = record { hearings = h.hearings; frames = h.frames; loans = h.loans; arrivals = h.arrivals; expirations = refl }
+noted c s (entries.Requeue _) k alone h = record { hearings = h.hearings; frames = h.frames; loans = h.loans; arrivals = h.arrivals; expirations = h.expirations }
+noted c s (entries.Late _) k alone h = record { hearings = h.hearings; frames = h.frames; loans = h.loans; arrivals = h.arrivals; expirations = h.expirations }
+noted c s (entries.HandAsk _) k alone h = record { hearings = h.hearings; frames = h.frames; loans = h.loans; arrivals = h.arrivals; expirations = h.expirations }
+noted c s (entries.ResetBegin _) k alone h = record { hearings = h.hearings; frames = h.frames; loans = h.loans; arrivals = h.arrivals; expirations = h.expirations }
+noted c s (entries.ResetEnd _ _) k alone h = record { hearings = h.hearings; frames = h.frames; loans = h.loans; arrivals = h.arrivals; expirations = h.expirations }
+noted c s (entries.Port _ _ _ _ _) k alone h = record { hearings = h.hearings; frames = h.frames; loans = h.loans; arrivals = h.arrivals; expirations = h.expirations }
+noted c s (entries.WireOut _ _) k alone h = record { hearings = h.hearings; frames = h.frames; loans = h.loans; arrivals = h.arrivals; expirations = refl }
+noted c s _ k alone h = absurd (cc)

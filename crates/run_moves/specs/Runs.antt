@@ -1,5 +1,5 @@
 -- What is kept of a run shows its state, and the log of its entries is a run that leaves that state.
-use Rattle.std.specs.Prelude.{◌≡◌, ◌≢◌, ◌⊎◌, ◌+◌, ℕ, suc, true, false, List, [], ◌∷◌, ◌++◌, Option, Some, None, Result, Ok, Err}
+use Rattle.std.specs.Prelude.{◌≡◌, ◌≢◌, ◌⊎◌, ◌+◌, ℕ, suc, Bool, true, false, List, [], ◌∷◌, ◌++◌, Option, Some, None, Result, Ok, Err, slice_index_or}
 use Rattle.nd_base.specs.declared.OutOfMemory.{OutOfMemory}
 use Rattle.nd_base.specs.declared.numbers.Breach.{Breach}
 use Rattle.nd_base.specs.declared.numbers.CtxNo.{CtxNo}
@@ -9,7 +9,7 @@ use Rattle.call_log.specs.declared.entry.Entry.{Entry}
 use Rattle.call_log.specs.declared.entry.Entry.TheVariants as entries
 use Rattle.log_fields.specs.declared.field_values.Handler.{Handler}
 use Rattle.log_fields.specs.declared.field_values.Handler.TheVariants as handler
-use Rattle.legal_run.specs.State.{handler_of}
+use Rattle.legal_run.specs.State.{State, handler_of}
 use Rattle.legal_run.specs.Calls.{leaves}
 use Rattle.legal_run.specs.After.{reaches}
 use Rattle.legal_run.specs.Run.{Reaches}
@@ -44,6 +44,40 @@ expirations n _ = n
 abbrev pub EntersOr : Point → CtxNo → Entering → Running → Running → Result (Unit {0}) OutOfMemory → Type 0
 EntersOr o x e before r (Ok _) = Grows o (entry_of x e) before r
 EntersOr o x e before r (Err _) = IsRun o r × (r.log ≡ before.log)
+
+-- ---- loans
+
+-- the descriptor that was lent
+abbrev pub lent_at : State → ℕ → ℕ
+lent_at s j = slice_index_or s.lent j 0
+
+-- ---- answers, and entries that change the book alone
+
+abbrev pub AnswersOr : Point → Entry → Running → Running → Result (Unit {0}) OutOfMemory → Type 0
+AnswersOr o e before r (Ok _) = Grows o e before r
+AnswersOr o e before r (Err _) = IsRun o r × (r.log ≡ before.log)
+
+abbrev pub changes_book_alone : Entry → Bool
+changes_book_alone (entries.Tag _ _) = true
+changes_book_alone (entries.Hand _) = true
+changes_book_alone (entries.Requeue _) = true
+changes_book_alone (entries.Late _) = true
+changes_book_alone (entries.HandAsk _) = true
+changes_book_alone (entries.ResetBegin _) = true
+changes_book_alone (entries.ResetEnd _ _) = true
+changes_book_alone (entries.Port _ _ _ _ _) = true
+changes_book_alone (entries.WireOut _ _) = true
+changes_book_alone _ = false
+
+-- of these, those that count as something that was done
+abbrev pub makes_progress : Entry → Bool
+makes_progress (entries.Hand _) = true
+makes_progress (entries.WireOut _ _) = true
+makes_progress _ = false
+
+abbrev pub progressed : ℕ → Bool → ℕ
+progressed n true = 0
+progressed n false = n
 
 -- ---- replies
 

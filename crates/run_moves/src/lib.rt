@@ -5,6 +5,8 @@
 
 mod contexts;
 mod drivers;
+mod endings;
 mod running;
+mod stops;
 
 pub use running::Running;

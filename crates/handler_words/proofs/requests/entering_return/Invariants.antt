@@ -1,0 +1,4 @@
+use Rattle.handler_words.proofs.requests.entering_return.Given as goal
+
+abbrev pub ghost-context_word : goal.ghost-context_word
+ghost-context_word g a = g.o.state

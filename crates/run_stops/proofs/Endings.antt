@@ -1,10 +1,11 @@
 -- One entry of the tail of a stop, and entries in a row.
-use Rattle.std.proofs.Common.{◌≡◌, ◌≢◌, ℕ, zero, suc, ◌+◌, ◌≤◌, ◌<◌, Bool, true, false, not, ◌&&◌, ◌||◌, ◌==◌, cond, List, [], ◌∷◌, ◌++◌, Option, Some, None, refl, sym, ap, ◌∙◌, subst, arith, append_assoc}
+use Rattle.std.proofs.Common.{◌≡◌, ◌≢◌, ℕ, zero, suc, ◌+◌, ◌≤◌, ◌<◌, Bool, true, false, ◌&&◌, ◌||◌, ◌==◌, cond, List, [], ◌∷◌, ◌++◌, Option, Some, None, refl, sym, ap, ◌∙◌, subst, arith, append_assoc}
 use Rattle.std.specs.Prelude.{count_by, slice_get, sum_by}
-use Rattle.std.specs.List.{position}
+use Rattle.std.specs.List.{list_any, position}
 use Rattle.std.specs.Option.{option_map, option_map_or, option_or}
 use Rattle.std.proofs.lemmas.Option.{slice_get-get_or}
 use Rattle.std.proofs.lemmas.List.Sums.{sum_by-append}
+use Rattle.std.proofs.lemmas.List.Folds.{list_any-append}
 use Rattle.std.proofs.lemmas.List.Quantifiers.{position-Some}
 use Rattle.nd_base.specs.declared.numbers.AdapterNo.{AdapterNo}
 use Rattle.log_fields.specs.declared.field_values.Cause.{Cause}
@@ -34,11 +35,11 @@ use Rattle.legal_run.specs.State.{Inputs, State, Next, Stops}
 use Rattle.legal_run.specs.After.{after, popped, stops_behind}
 use Rattle.legal_run.specs.EntryLaws.{DutyLaws, GoesOn}
 use Rattle.legal_run.specs.Must.{Due, Owes, Exactly, ReplyOf, Serves, must, next_must, taken_first}
-use Rattle.legal_run.specs.Run.{Meets, is_stops}
+use Rattle.legal_run.specs.Run.{Meets, is_memory_stop, is_stops}
 use Rattle.run_moves.specs.Runs.{Grows, IsRun}
 use Rattle.run_moves.specs.declared.running.Running.{Running}
 use Rattle.run_stops.specs.Standing.{Adds, point_of, state_of}
-use Rattle.run_stops.specs.Stopping.{EndsOne, IsTailing, StopsWhole, failed_answer, owner_of}
+use Rattle.run_stops.specs.Stopping.{EndsOne, IsOfTail, IsTailing, StopsWhole, failed_answer, is_of_tail, owner_of}
 
 -- ---- a move, by the log
 
@@ -229,12 +230,61 @@ goes_on adapter o k same is = ap (λ (n : OwnerNext). cond (at (λ p. has_verdic
 
 -- what an entry has to be so that it ends one thing of a tail
 record IsEnd (o : Owner) (a : AdapterNo) (e : Entry) : Type 0 where
+  pub kind : is_of_tail e ≡ true
   pub due : owners.Due
   pub first : tail o a.0 ≡ Some due
   pub serves : serves o due e ≡ true
   pub behind : (owners_after o e).next ≡ Tail a
   pub rows : (owners_after o e).adapters ≡ o.adapters
+  pub contexts : (owners_after o e).contexts ≡ o.contexts
   pub others : (b : ℕ) → b ≢ a.0 → outstanding (owners_after o e) b ≡ outstanding o b
+
+packet_ends : (o : Owner) (a : AdapterNo) (k : ℕ) → o.next ≡ Tail a → position (out_of a.0) o.packets ≡ Some k → IsEnd o a (entries.Complete (record { 0 = k }) (record { 0 = failure }))
+packet_ends o a k behind found =
+    let is = first_passes (out_of a.0) o.packets no_packet k found in
+    record {
+      kind = refl;
+      due = Completes false k failure;
+      first = packet_first o a.0 k found;
+      serves = serve_packet o k;
+      behind = goes_on a o k behind is;
+      rows = refl;
+      contexts = refl;
+      others = λ b other. ap (λ n. n + count_by (away_of b) o.loans + count_by (open_of b) o.requests) (packets_of_others o a.0 b k o.next other is);
+    }
+
+loan_ends : (o : Owner) (a : AdapterNo) (j : ℕ) → o.next ≡ Tail a → position (out_of a.0) o.packets ≡ None → position (away_of a.0) o.loans ≡ Some j → IsEnd o a (entries.Back (record { 0 = j }) true)
+loan_ends o a j behind none found =
+    let is = first_passes (away_of a.0) o.loans no_loan j found in
+    record {
+      kind = refl;
+      due = BacksFailed j;
+      first = loan_first o a.0 j none found;
+      serves = serve_loan o j;
+      behind = ap behind_back behind;
+      rows = refl;
+      contexts = refl;
+      others = λ b other. ap (λ n. count_by (out_of b) o.packets + n + count_by (open_of b) o.requests) (loans_of_others o a.0 b j other is);
+    }
+
+request_ends : (o : Owner) (a : AdapterNo) (r : ℕ) → o.next ≡ Tail a → position (out_of a.0) o.packets ≡ None → position (away_of a.0) o.loans ≡ None → position (open_of a.0) o.requests ≡ Some r
+    → IsEnd o a (failed_answer (record { 0 = r }))
+request_ends o a r behind none nor found =
+    let is = first_passes (open_of a.0) o.requests no_request r found in
+    record {
+      kind = refl;
+      due = Answers r failure;
+      first = request_first o a.0 (Some r) none nor found;
+      serves = serve_request o r;
+      behind = ap behind_answer behind;
+      rows = refl;
+      contexts = refl;
+      others = λ b other. ap (λ n. count_by (out_of b) o.packets + count_by (away_of b) o.loans + n) (requests_of_others o a.0 b r other is);
+    }
+
+plain_kind : (e : Entry) → is_of_tail e ≡ true → is_memory_stop e ≡ false
+plain_kind (entries.Stop a cause) h = absurd (cc)
+plain_kind _ h = refl
 
 ends_by : StopLaws → (c : Inputs) (a : AdapterNo) (e : Entry) (before r : Running) → IsTailing c a before → Adds c e before r → IsEnd (owner_of c before) a e
     → (after c (state_of c before) e).owner ≡ owners_after (owner_of c before) e → (after c (state_of c before) e).next ≡ popped (state_of c before).next → EndsOne c a before r
@@ -254,60 +304,89 @@ ends_by laws c a e before r tailing added end owner next =
         next = stays;
       };
       entry = e;
+      plain = plain_kind e end.kind;
       written = added.written;
       spare = added.spare;
     }
 
 pub ends_packet : StopLaws → (c : Inputs) (a : AdapterNo) (k : ℕ) (before r : Running) → IsTailing c a before → position (out_of a.0) (owner_of c before).packets ≡ Some k
     → Grows (point_of c before) (entries.Complete (record { 0 = k }) (record { 0 = failure })) before r → EndsOne c a before r
-ends_packet laws c a k before r tailing found grown =
-    let o = owner_of c before in
-    let is = first_passes (out_of a.0) o.packets no_packet k found in
-    ends_by laws c a _ before r tailing (adds c _ before r grown)
-    (record {
-      due = Completes false k failure;
-      first = packet_first o a.0 k found;
-      serves = serve_packet o k;
-      behind = goes_on a o k tailing.behind is;
-      rows = refl;
-      others = λ b other. ap (λ n. n + count_by (away_of b) o.loans + count_by (open_of b) o.requests) (packets_of_others o a.0 b k o.next other is);
-    })
-    refl refl
+ends_packet laws c a k before r tailing found grown = ends_by laws c a _ before r tailing (adds c _ before r grown) (packet_ends (owner_of c before) a k tailing.behind found) refl refl
 
 pub ends_loan : StopLaws → (c : Inputs) (a : AdapterNo) (j : ℕ) (before r : Running) → IsTailing c a before → position (out_of a.0) (owner_of c before).packets ≡ None
     → position (away_of a.0) (owner_of c before).loans ≡ Some j → Grows (point_of c before) (entries.Back (record { 0 = j }) true) before r → EndsOne c a before r
-ends_loan laws c a j before r tailing none found grown =
-    let o = owner_of c before in
-    let is = first_passes (away_of a.0) o.loans no_loan j found in
-    ends_by laws c a _ before r tailing (adds c _ before r grown)
-    (record {
-      due = BacksFailed j;
-      first = loan_first o a.0 j none found;
-      serves = serve_loan o j;
-      behind = ap behind_back tailing.behind;
-      rows = refl;
-      others = λ b other. ap (λ n. count_by (out_of b) o.packets + n + count_by (open_of b) o.requests) (loans_of_others o a.0 b j other is);
-    })
-    refl refl
+ends_loan laws c a j before r tailing none found grown = ends_by laws c a _ before r tailing (adds c _ before r grown) (loan_ends (owner_of c before) a j tailing.behind none found) refl refl
 
 pub ends_request : StopLaws → (c : Inputs) (a : AdapterNo) (r : ℕ) (before after : Running) → IsTailing c a before → position (out_of a.0) (owner_of c before).packets ≡ None
     → position (away_of a.0) (owner_of c before).loans ≡ None → position (open_of a.0) (owner_of c before).requests ≡ Some r
     → Grows (point_of c before) (failed_answer (record { 0 = r })) before after → EndsOne c a before after
 ends_request laws c a r before after tailing none nor found grown =
-    let o = owner_of c before in
-    let is = first_passes (open_of a.0) o.requests no_request r found in
-    ends_by laws c a _ before after tailing (adds c _ before after grown)
-    (record {
-      due = Answers r failure;
-      first = request_first o a.0 (Some r) none nor found;
-      serves = serve_request o r;
-      behind = ap behind_answer tailing.behind;
-      rows = refl;
-      others = λ b other. ap (λ n. count_by (out_of b) o.packets + count_by (away_of b) o.loans + n) (requests_of_others o a.0 b r other is);
-    })
-    refl refl
+    ends_by laws c a _ before after tailing (adds c _ before after grown) (request_ends (owner_of c before) a r tailing.behind none nor found) refl refl
+
+-- ---- every entry of a tail
+
+-- what is first of the tail
+data IsFirst (o : Owner) (a : ℕ) (due : owners.Due) : Type 0 where
+  OfPackets : (k : ℕ) → position (out_of a) o.packets ≡ Some k → due ≡ Completes false k failure → IsFirst o a due
+  OfLoans : (j : ℕ) → position (out_of a) o.packets ≡ None → position (away_of a) o.loans ≡ Some j → due ≡ BacksFailed j → IsFirst o a due
+  OfRequests : (r : ℕ) → position (out_of a) o.packets ≡ None → position (away_of a) o.loans ≡ None → position (open_of a) o.requests ≡ Some r → due ≡ Answers r failure → IsFirst o a due
+
+found_first : (o : Owner) (a : ℕ) (due : owners.Due) → tail o a ≡ Some due → IsFirst o a due
+found_first o a due is = by (position (out_of a) o.packets) (position (away_of a) o.loans) (position (open_of a) o.requests) refl refl refl is
+  where
+    by : (p l q : Option ℕ) → position (out_of a) o.packets ≡ p → position (away_of a) o.loans ≡ l → position (open_of a) o.requests ≡ q
+        → first_due (option_map (λ k. Completes false k failure) p) (first_due (option_map (λ j. BacksFailed j) l) (option_map (λ r. Answers r failure) q)) ≡ Some due → IsFirst o a due
+    by (Some k) l q one two three h = OfPackets k one (cc)
+    by None (Some j) q one two three h = OfLoans j one two (cc)
+    by None None (Some r) one two three h = OfRequests r one two three (cc)
+    by None None None one two three h = absurd (cc)
+
+of_tail : (c : Inputs) (s : State) (a : AdapterNo) (e : Entry) → Meets c s e → IsEnd s.owner a e → is_stops s.next ≡ true → s.owner.next ≡ Tail a → (after c s e).owner ≡ owners_after s.owner e
+    → (after c s e).next ≡ popped s.next → IsOfTail c s a.0 e
+of_tail c s a e meets end stops behind owner next = record {
+  meets = meets;
+  kind = end.kind;
+  owner = owner;
+  next = next ∙ stops_stay s.next stops;
+  behind = end.behind ∙ sym behind;
+  rows = end.rows;
+  contexts = end.contexts;
+  others = end.others;
+}
+
+pub goes_on_by : DutyLaws → (c : Inputs) (s : State) (a : AdapterNo) (due : owners.Due) (e : Entry) → is_stops s.next ≡ true → s.owner.next ≡ Tail a → owner_must s.owner ≡ Some due → serves s.owner due e ≡ true
+    → IsOfTail c s a.0 e
+goes_on_by laws c s a due e stops behind is serve = by (found_first s.owner a.0 due first)
+  where
+    first : tail s.owner a.0 ≡ Some due
+    first = sym (ap (must_behind s.owner) behind) ∙ is
+
+    by : IsFirst s.owner a.0 due → IsOfTail c s a.0 e
+    by (OfPackets k found same) =
+        let must_be = must_in_tail s a (Completes false k failure) stops behind (packet_first s.owner a.0 k found) in
+        let only = completion s.owner k failure e (ap (λ d. serves s.owner d e) (sym same) ∙ serve) in
+        subst (IsOfTail c s a.0) (sym only) (of_tail c s a _ (completes_meets laws c s k failure must_be) (packet_ends s.owner a k behind found) stops behind refl refl)
+    by (OfLoans j none found same) =
+        let must_be = must_in_tail s a (BacksFailed j) stops behind (loan_first s.owner a.0 j none found) in
+        let only = failed_loan s.owner j e (ap (λ d. serves s.owner d e) (sym same) ∙ serve) in
+        subst (IsOfTail c s a.0) (sym only) (of_tail c s a _ (back_meets laws c s j must_be) (loan_ends s.owner a j behind none found) stops behind refl refl)
+    by (OfRequests r none nor found same) =
+        let must_be = must_in_tail s a (Answers r failure) stops behind (request_first s.owner a.0 (Some r) none nor found) in
+        let only = answering s.owner r failure e (ap (λ d. serves s.owner d e) (sym same) ∙ serve) in
+        subst (IsOfTail c s a.0) (sym only) (of_tail c s a _ (answer_meets laws c s r must_be) (request_ends s.owner a r behind none nor found) stops behind refl refl)
 
 -- ---- entries in a row
+
+neither : (a b : Bool) → a ≡ false → b ≡ false → a || b ≡ false
+neither false b h k = k
+neither true b h k = absurd (cc)
+
+-- no stop for want of memory is in the one nor in the other
+pub none_in_both : (es more : List Entry) → list_any is_memory_stop es ≡ false → list_any is_memory_stop more ≡ false → list_any is_memory_stop (es ++ more) ≡ false
+none_in_both es more h k = list_any-append is_memory_stop es more ∙ neither (list_any is_memory_stop es) (list_any is_memory_stop more) h k
+
+pub none_in_front : (e : Entry) (es : List Entry) → is_memory_stop e ≡ false → list_any is_memory_stop es ≡ false → list_any is_memory_stop (e ∷ es) ≡ false
+none_in_front e es h k = neither (is_memory_stop e) (list_any is_memory_stop es) h k
 
 -- the adapter was stopped from before on, and its tail is being written
 pub record IsEnding (c : Inputs) (a : AdapterNo) (cause : Cause) (before r : Running) : Type 0 where
@@ -316,6 +395,7 @@ pub record IsEnding (c : Inputs) (a : AdapterNo) (cause : Cause) (before r : Run
   pub others : (b : ℕ) → b ≢ a.0 → outstanding (owner_of c r) b ≡ outstanding (owner_of c before) b
   pub rows : (owner_of c r).adapters ≡ change stopped (owner_of c before).adapters a.0
   pub tail : List Entry
+  pub plain : list_any is_memory_stop tail ≡ false
   pub written : r.log.entries ≡ before.log.entries ++ entries.Stop a cause ∷ tail
   pub spare : r.log.spare + 1 + outstanding (owner_of c before) a.0 ≡ before.log.spare + outstanding (owner_of c r) a.0
 
@@ -332,6 +412,7 @@ ending_begins c a cause before r grown =
       others = λ b other. ap (λ (s : State). outstanding s.owner b) added.state;
       rows = ap (λ (s : State). s.owner.adapters) added.state;
       tail = [];
+      plain = refl;
       written = added.written;
       spare = let same : outstanding (owner_of c r) a.0 ≡ outstanding (owner_of c before) a.0 = ap (λ (s : State). outstanding s.owner a.0) added.state in let one = added.spare in omega (arith, same, one);
     }
@@ -343,6 +424,7 @@ ending_goes_on c a cause before m r some one = record {
   others = λ b other. one.keeps.others b other ∙ some.others b other;
   rows = one.keeps.rows ∙ some.rows;
   tail = some.tail ++ one.entry ∷ [];
+  plain = none_in_both some.tail (one.entry ∷ []) some.plain (none_in_front one.entry [] one.plain refl);
   written = one.written ∙ ap (λ es. es ++ one.entry ∷ []) some.written ∙ append_assoc before.log.entries (entries.Stop a cause ∷ some.tail) (one.entry ∷ []);
   spare = let x = some.spare in let y = one.spare in let z = one.falls in omega (arith, x, y, z);
 }
@@ -358,6 +440,7 @@ ending_ends laws c a cause before r ending over =
       others = ending.others;
       rows = ending.rows;
       tail = ending.tail;
+      plain = ending.plain;
       written = ending.written;
       spare = let x = ending.spare in omega (arith, x, nothing);
     }

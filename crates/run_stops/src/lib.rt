@@ -6,6 +6,6 @@ mod laws;
 mod stops;
 mod tails;
 
-pub use laws::{moves_add, states_are_free};
+pub use laws::{moves_add, states_are_free, stops_take_room, tails_go_on};
 pub use stops::stop_for;
 pub use tails::stop_whole;

@@ -1,6 +1,7 @@
 //! The stops that a context brings: of its adapter, or, where it is DriverEntry's, of every adapter.
 
 ghost use Rattle.std.specs.Prelude.{◌≡◌, ◌<◌, ◌≤◌, ◌+◌, false, length, None, Some};
+ghost use Rattle.std.specs.List.{list_any};
 ghost use Rattle.log_fields.specs.Fields.{HasRule};
 ghost use Rattle.call_log.specs.declared.entry.Entry.TheVariants as entries;
 ghost use Rattle.owner_machine.specs.Handlers.{outstanding};
@@ -9,8 +10,9 @@ ghost use Rattle.owner_book.specs.Stopping.{stop_room};
 ghost use Rattle.legal_run.specs.State.{Inputs, Stops};
 ghost use Rattle.legal_run.specs.After.{adapters_stopped};
 ghost use Rattle.legal_run.specs.Must.{Exactly, must};
-ghost use Rattle.run_stops.specs.Standing.{Runs, state_of};
-ghost use Rattle.run_stops.specs.Stopping.{IsStopping, StopsAll, StopsOn, StopsWhole, is_memory, owner_of};
+ghost use Rattle.legal_run.specs.Run.{is_memory_stop};
+ghost use Rattle.run_stops.specs.Standing.{Runs, Settles, state_of};
+ghost use Rattle.run_stops.specs.Stopping.{IsStopping, StopsOn, StopsWhole, is_memory, owner_of};
 
 use crate::tails::stop_whole;
 use call_log::Cause;
@@ -38,6 +40,7 @@ fn stop_next(run: &mut Running, alloc: Global, a: AdapterNo, cause: Cause)
 fn stop_if_due(run: &mut Running, alloc: Global, a: AdapterNo, cause: Cause)
     ghost c: { Inputs }
     requires stopping { IsStopping c a.0 cause run.old }
+    requires fed { list_any is_memory_stop run.old.log.entries ≡ false }
     requires within { a.0 < length c.adapters }
     requires range { HasRule cause }
     requires other { is_memory cause ≡ false }
@@ -56,12 +59,13 @@ fn stop_every(run: &mut Running, alloc: Global, cause: Cause)
     requires run { Runs c run.old }
     requires due { (state_of c run.old).next ≡ Stops cause (adapters_stopped c (state_of c run.old) None) }
     requires silent { owner_must (owner_of c run.old) ≡ None }
+    requires fed { list_any is_memory_stop run.old.log.entries ≡ false }
     requires range { HasRule cause }
     requires other { is_memory cause ≡ false }
     requires adapters { length c.adapters < 256 }
     requires drivers { length c.drivers < 256 }
     requires spare { stop_room (owner_of c run.old) ≤ run.old.log.spare }
-    ensures { StopsAll c run.old run.new }
+    ensures { Settles c run.old run.new }
 {
     lists_keep_their_lengths();
     for n in 0..run.book.adapters() as u8 {
@@ -76,12 +80,13 @@ pub fn stop_for(run: &mut Running, alloc: Global, adapter: Option<AdapterNo>, ca
     requires run { Runs c run.old }
     requires due { (state_of c run.old).next ≡ Stops cause (adapters_stopped c (state_of c run.old) adapter) }
     requires silent { owner_must (owner_of c run.old) ≡ None }
+    requires fed { list_any is_memory_stop run.old.log.entries ≡ false }
     requires range { HasRule cause }
     requires other { is_memory cause ≡ false }
     requires adapters { length c.adapters < 256 }
     requires drivers { length c.drivers < 256 }
     requires spare { stop_room (owner_of c run.old) ≤ run.old.log.spare }
-    ensures { StopsAll c run.old run.new }
+    ensures { Settles c run.old run.new }
 {
     each_duty_is_served();
     match adapter {

@@ -1,6 +1,8 @@
 -- What stands behind a turn and a fault.
-use Rattle.std.proofs.Common.{◌≡◌, ◌≢◌, ℕ, zero, suc, ◌<◌, Bool, true, false, ◌&&◌, ◌==◌, not, List, [], ◌∷◌, ◌++◌, Option, Some, None, ◌⊎◌, inl, inr, refl, sym, ap, ◌∙◌, subst, arith, ◌+◌, append_assoc}
+use Rattle.std.proofs.Common.{◌≡◌, ◌≢◌, ℕ, zero, suc, ◌<◌, ◌≤◌, Bool, true, false, ◌&&◌, ◌||◌, ◌==◌, not, List, [], ◌∷◌, ◌++◌, Option, Some, None, ◌⊎◌, inl, inr, refl, sym, ap, ◌∙◌, subst, arith, ◌+◌, append_assoc}
 use Rattle.std.specs.Prelude.{is_none, slice_index_or, slice_set}
+use Rattle.std.specs.List.{list_any}
+use Rattle.std.proofs.lemmas.List.Folds.{list_any-append}
 use Rattle.nd_base.specs.declared.numbers.Addr.{Addr}
 use Rattle.nd_base.specs.declared.numbers.AdapterNo.{AdapterNo}
 use Rattle.nd_base.specs.declared.numbers.CtxNo.{CtxNo}
@@ -10,7 +12,7 @@ use Rattle.call_log.specs.declared.entry.Entry.TheVariants as entries
 use Rattle.legal_run.specs.State.{Inputs, State, Context, Next, Free, adapter_of, call_at, is_open, no_context}
 use Rattle.legal_run.specs.After.{after, charge_to, machine_of, reaches, spent}
 use Rattle.legal_run.specs.Must.{must}
-use Rattle.legal_run.specs.Run.{faults_as, is_at_import, is_at_leave, is_going, is_kind, is_over, is_stops, now}
+use Rattle.legal_run.specs.Run.{faults_as, is_at_import, is_at_leave, is_going, is_kind, is_memory_stop, is_over, is_stops, now}
 use Rattle.owner_machine.specs.Handlers.{is_none as is_empty}
 use Rattle.run_facts.specs.Facts.{ContextsAreReady}
 use Rattle.miniport.specs.Steps.{Goes}
@@ -23,10 +25,10 @@ use Rattle.ia32_step.specs.declared.Stepped.TheVariants.{Trap, Went, Fault}
 use Rattle.call_log.specs.Logs.{State as LogState}
 use Rattle.run_moves.specs.Runs.{Grows, IsRun, StaysAt, TurnsTo}
 use Rattle.run_moves.specs.declared.running.Running.{Running}
-use Rattle.run_stops.specs.Standing.{IsSettled, MovesAdd, StatesAreFree, point_of, state_of}
+use Rattle.run_stops.specs.Standing.{IsSettled, MovesAdd, Settles, SettlesBy, StatesAreFree, point_of, state_of}
 use Rattle.run_stops.specs.Stopping.{owner_of}
 use Rattle.owner_book.specs.Stopping.{stop_room}
-use Rattle.run_turns.specs.Reaching.{GoesOn, IsDone}
+use Rattle.run_turns.specs.Reaching.{GoesOn, is_of}
 
 and_first : (a b : Bool) → a && b ≡ true → a ≡ true
 and_first true b h = refl
@@ -78,14 +80,38 @@ still_going c s x n unspent going =
     let quiet : is_none (call_at t x.0) ≡ true = ap is_none (same_call c s x n) ∙ and_first (is_none (call_at s x.0)) (not (is_over c s)) (and_second (is_open s x.0) (is_none (call_at s x.0) && not (is_over c s)) going) in
     rw (opened, quiet, over) refl
 
+-- one entry more, which is no stop for want of memory
+pub still_fed : (es more : List Entry) (e : Entry) → is_memory_stop e ≡ false → more ≡ es ++ e ∷ [] → list_any is_memory_stop es ≡ false → list_any is_memory_stop more ≡ false
+still_fed es more e plain written fed =
+    ap (list_any is_memory_stop) written ∙ list_any-append is_memory_stop es (e ∷ []) ∙ ap (λ b. b || (is_memory_stop e || false)) fed ∙ ap (λ b. b || false) plain
+
+-- the room for every stop stays behind a turn
+pub room_stays : MovesAdd → (c : Inputs) (x : CtxNo) (before r : Running) (last : Stepped) → TurnsTo (point_of c before) x before r (Some last) → stop_room (owner_of c before) + 1 < before.log.spare
+    → stop_room (owner_of c r) < r.log.spare
+room_stays moves c x before r last (inl stays) room =
+    let owner : stop_room (owner_of c r) ≡ stop_room (owner_of c before) = ap (λ (l : LogState). stop_room (now c l.entries).owner) stays.silent in
+    let spare : r.log.spare ≡ before.log.spare = ap (λ (l : LogState). l.spare) stays.silent in
+    omega (arith, owner, spare, room)
+room_stays moves c x before r last (inr (n, on)) room =
+    let added = moves c (entries.Turn x n) before r on.grows in
+    let owner : stop_room (owner_of c r) ≡ stop_room (owner_of c before) = ap (λ (s : State). stop_room s.owner) added.state in
+    let spare = added.spare in
+    omega (arith, owner, spare, room)
+
 -- a turn was made, and nothing must stand behind it
 pub gone : MovesAdd → StatesAreFree → (c : Inputs) (x : CtxNo) (n : ℕ) (before r : Running) → reaches c (state_of c before) x n ≡ false → is_going c (state_of c before) x ≡ true
-    → Grows (point_of c before) (entries.Turn x n) before r → GoesOn c x before r
-gone moves free c x n before r unspent going grown =
+    → list_any is_memory_stop before.log.entries ≡ false → stop_room (owner_of c r) ≤ r.log.spare → Grows (point_of c before) (entries.Turn x n) before r → GoesOn c x before r
+gone moves free c x n before r unspent going fed room grown =
     let added = moves c (entries.Turn x n) before r grown in
     record {
-      settled = record { runs = added.runs; free = ap must added.state ∙ free _ (free_next c (state_of c before) x n unspent) refl };
+      settled = record {
+        runs = added.runs;
+        free = ap must added.state ∙ free _ (free_next c (state_of c before) x n unspent) refl;
+        fed = still_fed before.log.entries r.log.entries (entries.Turn x n) refl added.written fed;
+        room = room;
+      };
       longer = record { more = entries.Turn x n ∷ []; written = added.written };
+      turns = inr (n, refl);
       going = ap (λ (s : State). is_going c s x) added.state ∙ still_going c (state_of c before) x n unspent going;
     }
 
@@ -98,8 +124,18 @@ pub stayed : (c : Inputs) (x : CtxNo) (before r : Running) (last : Stepped) → 
 stayed c x before r last settled going stays =
     let same : state_of c r ≡ state_of c before = ap (λ (l : LogState). now c l.entries) stays.silent in
     record {
-      settled = record { runs = subst (λ (s : State). IsRun (record { inputs = c; state = s }) r) (sym same) stays.run; free = ap must same ∙ settled.free };
+      settled = record {
+        runs = subst (λ (s : State). IsRun (record { inputs = c; state = s }) r) (sym same) stays.run;
+        free = ap must same ∙ settled.free;
+        fed = ap (λ (l : LogState). list_any is_memory_stop l.entries) stays.silent ∙ settled.fed;
+        room =
+            let owner : stop_room (owner_of c r) ≡ stop_room (owner_of c before) = ap (λ (l : LogState). stop_room (now c l.entries).owner) stays.silent in
+            let spare : r.log.spare ≡ before.log.spare = ap (λ (l : LogState). l.spare) stays.silent in
+            let fits = settled.room in
+            omega (arith, owner, spare, fits);
+      };
       longer = record { more = []; written = ap (λ (l : LogState). l.entries) stays.silent ∙ none before.log.entries };
+      turns = inl refl;
       going = ap (λ (s : State). is_going c s x) same ∙ going;
     }
 
@@ -113,9 +149,11 @@ known moves c x before r last ends (inr (n, on)) =
     ap (λ (s : State). answer_to (outcome (machine_of s x))) added.state ∙ on.next ends
 
 pub went_on : MovesAdd → StatesAreFree → (c : Inputs) (x : CtxNo) (before r : Running) (last : Stepped) → IsSettled c before → is_going c (state_of c before) x ≡ true
-    → TurnsTo (point_of c before) x before r (Some last) → GoesOn c x before r
-went_on moves free c x before r last settled going (inl stays) = stayed c x before r last settled going stays
-went_on moves free c x before r last settled going (inr (n, on)) = gone moves free c x n before r on.unspent going on.grows
+    → stop_room (owner_of c before) + 1 < before.log.spare → TurnsTo (point_of c before) x before r (Some last) → GoesOn c x before r
+went_on moves free c x before r last settled going room (inl stays) = stayed c x before r last settled going stays
+went_on moves free c x before r last settled going room (inr (n, on)) =
+    let less = room_stays moves c x before r last (inr (n, on)) room in
+    gone moves free c x n before r on.unspent going settled.fed (omega (arith, less)) on.grows
 
 pub at_import : (o : Outcome) (n : ℕ) → answer_to o ≡ Trap (Import n) → is_at_import o n ≡ true
 at_import (Trapped slot) n h = let same : slot ≡ Import n = cc in ap (λ s. is_at_import (Trapped s) n) same ∙ grind arith
@@ -135,24 +173,51 @@ faults (Faulted other there) kind at logged h same =
     let two : there ≡ at = cc in
     ap (λ k. is_kind k logged && (there.0 == at.0)) one ∙ ap (λ (a : Addr). is_kind kind logged && (a.0 == at.0)) two ∙ ap (λ b. b && (at.0 == at.0)) same ∙ grind arith
 
--- the room for every stop stays behind a turn
-pub room_stays : MovesAdd → (c : Inputs) (x : CtxNo) (before r : Running) (last : Stepped) → TurnsTo (point_of c before) x before r (Some last) → stop_room (owner_of c before) + 1 < before.log.spare
-    → stop_room (owner_of c r) < r.log.spare
-room_stays moves c x before r last (inl stays) room =
-    let owner : stop_room (owner_of c r) ≡ stop_room (owner_of c before) = ap (λ (l : LogState). stop_room (now c l.entries).owner) stays.silent in
-    let spare : r.log.spare ≡ before.log.spare = ap (λ (l : LogState). l.spare) stays.silent in
-    omega (arith, owner, spare, room)
-room_stays moves c x before r last (inr (n, on)) room =
-    let added = moves c (entries.Turn x n) before r on.grows in
-    let owner : stop_room (owner_of c r) ≡ stop_room (owner_of c before) = ap (λ (s : State). stop_room s.owner) added.state in
-    let spare = added.spare in
-    omega (arith, owner, spare, room)
+-- ---- the first entry
 
-pub further : (c : Inputs) (x : CtxNo) (before m r : Running) → GoesOn c x before m → IsDone c m r → IsDone c before r
-further c x before m r on done = record {
+own : (x : CtxNo) → (x.0 == x.0) ≡ true
+own x = grind arith
+
+pub settles_by : (c : Inputs) (e : Entry) (before m r : Running) → m.log.entries ≡ before.log.entries ++ e ∷ [] → Settles c m r → SettlesBy c e before r
+settles_by c e before m r written done = record {
   settled = done.settled;
-  longer = record {
-    more = on.longer.more ++ done.longer.more;
-    written = done.longer.written ∙ ap (λ es. es ++ done.longer.more) on.longer.written ∙ append_assoc before.log.entries on.longer.more done.longer.more;
-  };
+  more = done.longer.more;
+  written = done.longer.written ∙ ap (λ es. es ++ done.longer.more) written ∙ append_assoc before.log.entries (e ∷ []) done.longer.more;
 }
+
+-- the turn reached the budget, and the stops stand behind it
+pub spent_whole : (c : Inputs) (x : CtxNo) (before m r : Running) → TurnsTo (point_of c before) x before m None → Settles c m r → (e : Entry) × (is_of x e ≡ true) × SettlesBy c e before r
+spent_whole c x before m r (n, spent) done = (entries.Turn x n, own x, settles_by c (entries.Turn x n) before m r spent.grows.written done)
+
+-- the turn is the whole
+pub turned_whole : (c : Inputs) (x : CtxNo) (before r : Running) → IsSettled c r → TurnsTo (point_of c before) x before r (Some Went) → (e : Entry) × (is_of x e ≡ true) × SettlesBy c e before r
+turned_whole c x before r settled (inl stays) = absurd (stays.ends refl)
+turned_whole c x before r settled (inr (n, on)) = (entries.Turn x n, own x, record { settled = settled; more = []; written = on.grows.written })
+
+-- the fault, behind a turn or none
+pub faulted_whole : (c : Inputs) (x : CtxNo) (kind : FaultKind) (at : Addr) (before m r : Running) → GoesOn c x before m → SettlesBy c (entries.Fault x kind at) m r
+    → (e : Entry) × (is_of x e ≡ true) × SettlesBy c e before r
+faulted_whole c x kind at before m r on done = by on.turns
+  where
+    fault : Entry
+    fault = entries.Fault x kind at
+
+    by : (on.longer.more ≡ []) ⊎ ((n : ℕ) × (on.longer.more ≡ entries.Turn x n ∷ [])) → (e : Entry) × (is_of x e ≡ true) × SettlesBy c e before r
+    by (inl nothing) = (
+      fault,
+      own x,
+      record {
+        settled = done.settled;
+        more = done.more;
+        written = done.written ∙ ap (λ es. es ++ fault ∷ done.more) (on.longer.written ∙ ap (λ es. before.log.entries ++ es) nothing ∙ sym (none before.log.entries));
+      },
+    )
+    by (inr (n, one)) = (
+      entries.Turn x n,
+      own x,
+      record {
+        settled = done.settled;
+        more = fault ∷ done.more;
+        written = done.written ∙ ap (λ es. es ++ fault ∷ done.more) (on.longer.written ∙ ap (λ es. before.log.entries ++ es) one) ∙ append_assoc before.log.entries (entries.Turn x n ∷ []) (fault ∷ done.more);
+      },
+    )

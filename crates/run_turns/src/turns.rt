@@ -2,14 +2,15 @@
 
 ghost use Rattle.std.specs.Prelude.{◌≡◌, ◌<◌, ◌≤◌, ◌+◌, ◌^◌, length, true, false};
 ghost use Rattle.ia32_step.specs.Machine.{outcome};
+ghost use Rattle.call_log.specs.declared.entry.Entry.TheVariants as entries;
 ghost use Rattle.owner_book.specs.Stopping.{stop_room};
 ghost use Rattle.legal_run.specs.State.{Inputs};
 ghost use Rattle.legal_run.specs.After.{machine_of, reaches};
 ghost use Rattle.legal_run.specs.Owed.{frame_due};
 ghost use Rattle.legal_run.specs.Run.{faults_as, is_going, is_kind};
-ghost use Rattle.run_stops.specs.Standing.{IsSettled, state_of};
-ghost use Rattle.run_stops.specs.Stopping.{StopsAll, owner_of};
-ghost use Rattle.run_turns.specs.Reaching.{IsDone, ReachesTo};
+ghost use Rattle.run_stops.specs.Standing.{IsSettled, SettlesBy, state_of};
+ghost use Rattle.run_stops.specs.Stopping.{owner_of};
+ghost use Rattle.run_turns.specs.Reaching.{ReachesTo};
 
 use call_log::{Cause, FaultKind};
 use ia32_step::Stepped;
@@ -58,7 +59,7 @@ fn end_by_fault(run: &mut Running, alloc: Global, x: CtxNo, kind: FaultKind, add
     requires adapters { length c.adapters < 256 }
     requires drivers { length c.drivers < 256 }
     requires spare { stop_room (owner_of c run.old) < run.old.log.spare }
-    ensures { IsDone c run.old run.new }
+    ensures { SettlesBy c (entries.Fault x kind address) run.old run.new }
 {
     contexts_are_ready();
     run.fault(x, kind, address);

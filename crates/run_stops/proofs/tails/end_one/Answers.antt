@@ -1,4 +1,4 @@
-use Rattle.std.proofs.Common.{◌≡◌, ℕ, true, Option, Some, None, ap, ◌∙◌, sym}
+use Rattle.std.proofs.Common.{◌≡◌, true, Some, None, ap, ◌∙◌, sym}
 use Rattle.std.specs.List.{position}
 use Rattle.owner_machine.specs.State.{Owner}
 use Rattle.owner_machine.specs.Packets.{out_of}

@@ -1,5 +1,4 @@
-use Rattle.std.proofs.Common.{◌≡◌, ap, ◌∙◌, sym, subst}
-use Rattle.owner_machine.specs.Must.{tail}
+use Rattle.std.proofs.Common.{sym, subst}
 use Rattle.run_moves.specs.declared.running.Running.{Running}
 use Rattle.run_stops.specs.Stopping.{StopsWhole}
 use Rattle.run_stops.proofs.Endings.{ending_goes_on, ending_ends}

@@ -3,13 +3,19 @@
 //! NdisMSetInformationComplete; docs/LEGAL-RUN.md.)
 #![tactic(auto)]
 
+mod arrays;
+mod calls;
 mod deeds;
+mod filters;
+mod frames;
+mod holders;
+mod lendings;
 mod packets;
+mod ports;
 mod requests;
 mod resets;
 mod rules;
+mod words;
 
+pub use calls::made;
 pub use deeds::Deed;
-pub use packets::{completion, handed_at};
-pub use requests::request_end;
-pub use resets::reset_end;

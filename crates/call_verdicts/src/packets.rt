@@ -55,7 +55,7 @@ fn is_handed_at(book: &Book, frames: &[Frame], a: AdapterNo, k: u64, packet: u32
 }
 
 /// The packet of the adapter's miniport that lies at an address, if one does.
-pub fn handed_at(book: &Book, frames: &[Frame], a: AdapterNo, packet: u32) -> Option<u64>
+pub(crate) fn handed_at(book: &Book, frames: &[Frame], a: AdapterNo, packet: u32) -> Option<u64>
     ghost s: { State }
     requires owner { book.now ≡ s.owner }
     requires frames { frames.now ≡ s.packets }
@@ -90,7 +90,7 @@ fn ending_of(book: &Book, k: u64, status: u32) -> Entry
 ///
 /// # Errors
 /// [`OutOfMemory`] where no memory is left.
-pub fn completion(
+pub(crate) fn completion(
     alloc: Global,
     book: &Book,
     status: u32,

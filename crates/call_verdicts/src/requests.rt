@@ -61,7 +61,7 @@ fn answered(
 ///
 /// # Errors
 /// [`OutOfMemory`] where no memory is left.
-pub fn request_end(
+pub(crate) fn request_end(
     alloc: Global,
     book: &Book,
     world: &World,

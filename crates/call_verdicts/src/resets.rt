@@ -20,7 +20,12 @@ const RESET_RULE: u8 = 4;
 ///
 /// # Errors
 /// [`OutOfMemory`] where no memory is left.
-pub fn reset_end(alloc: Global, book: &Book, a: AdapterNo, status: u32) -> Result<Deed, OutOfMemory>
+pub(crate) fn reset_end(
+    alloc: Global,
+    book: &Book,
+    a: AdapterNo,
+    status: u32,
+) -> Result<Deed, OutOfMemory>
     ghost s: { State }
     requires { book.now ≡ s.owner }
     ensures { IfOk result (λ d. did_as d ≡ reset_end s a.0 status) }

@@ -4,6 +4,7 @@
 
 mod judgement;
 mod leaves;
+mod packets;
 mod requests;
 mod resets;
 mod starts;

@@ -1,5 +1,8 @@
 use Rattle.leave_verdicts.proofs.leaves.drawn_from.Given as goal
 
+abbrev pub ghost-send_verdicts : goal.ghost-send_verdicts
+ghost-send_verdicts g a = g.s
+
 abbrev pub ghost-request_verdict : goal.ghost-request_verdict
 ghost-request_verdict g a = g.s
 

@@ -1,0 +1,4 @@
+pub mod Costs
+pub mod Memory
+pub mod Places
+pub mod Returns

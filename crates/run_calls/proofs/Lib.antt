@@ -1,0 +1,14 @@
+pub mod Words
+pub mod Behind
+pub mod Settling
+pub mod Opening
+pub mod Answered
+pub mod Replying
+pub mod Rules
+pub mod Judging
+pub mod Transfers
+pub mod Making
+pub mod Wrote
+pub mod Imports
+pub mod Woken
+pub mod Deeds

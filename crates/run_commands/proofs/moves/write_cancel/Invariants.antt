@@ -1,0 +1,4 @@
+use Rattle.run_commands.proofs.moves.write_cancel.Given as goal
+
+abbrev pub ghost-speak : goal.ghost-speak
+ghost-speak g a = g.o.state

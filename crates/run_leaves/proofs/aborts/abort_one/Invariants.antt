@@ -1,0 +1,5 @@
+use Rattle.run_stops.specs.Standing.{point_of}
+use Rattle.run_leaves.proofs.aborts.abort_one.Given as goal
+
+abbrev pub ghost-complete : goal.ghost-complete
+ghost-complete g a = point_of g.c a.self.now

@@ -1,0 +1,11 @@
+pub mod AtPoint
+pub mod Counted
+pub mod Drivers
+pub mod Earliest
+pub mod Later
+pub mod Lowest
+pub mod MayStand
+pub mod Owing
+pub mod Sleepers
+pub mod Stillness
+pub mod Together

@@ -1,0 +1,4 @@
+pub mod Coming
+pub mod Reaching
+pub mod Settling
+pub mod Silencing

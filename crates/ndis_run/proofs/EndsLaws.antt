@@ -1,5 +1,5 @@
 -- What follows of the statuses of the commands.
-use Rattle.std.proofs.Common.{◌≡◌, ◌≢◌, ℕ, ◌<◌, ◌⊎◌, inl, inr, List, Some, Ok, refl, sym, subst, ◌∙◌, arith}
+use Rattle.std.proofs.Common.{◌≡◌, ◌≢◌, ℕ, ◌+◌, ◌*◌, ◌<◌, ◌⊎◌, inl, inr, List, Some, Ok, refl, sym, ap, subst, ◌∙◌, arith, length, nat_eq, slice_index, if◌then◌else◌}
 use Rattle.nd_base.specs.Files.{Kept, bytes_at, Rose}
 use Rattle.pe_image.specs.Image.{ImageParts}
 use Rattle.entry_session.specs.declared.session.Ending.{Ending}
@@ -12,8 +12,32 @@ use Rattle.ndis_run.specs.Showing.{EndsShowing}
 use Rattle.ndis_run.specs.Showing as showing
 use Rattle.ndis_run.specs.Shown.{Answer, judged}
 use Rattle.ndis_run.specs.Tool.{Ends}
-use Rattle.ndis_run.specs.Words.{Form, Help, Version, RunZero, ShowImage, ShowInf, IsForm, form_of}
+use Rattle.forged_miniports.specs.declared.kind.Kind.{Kind}
+use Rattle.forged_miniports.specs.declared.kind.Kind.TheVariants.{Idle, Double, Scarce, Mute, Deserial}
+use Rattle.forged_miniports.specs.Kinds.{name_of}
+use Rattle.ndis_run.specs.ForgeCommand.{EndsForging}
+use Rattle.ndis_run.specs.ForgeCommand as forging
+use Rattle.ndis_run.specs.Words.{Form, Help, Version, RunZero, ShowImage, ShowInf, Forge, IsForm, form_of}
 use Rattle.ndis_run.specs.declared.words.Command.{Command}
+
+-- a name's number of letters and its first letter, of which no two kinds have both
+mark : List ℕ → ℕ
+mark name = length name * 1000 + slice_index name 0
+
+marked : ℕ → Kind
+marked n = if nat_eq n 4105 then Idle else if nat_eq n 6100 then Double else if nat_eq n 6115 then Scarce else if nat_eq n 4109 then Mute else Deserial
+
+is_marked : (kind : Kind) → marked (mark (name_of kind)) ≡ kind
+unfolding marked mark
+is_marked Idle = refl
+is_marked Double = refl
+is_marked Scarce = refl
+is_marked Mute = refl
+is_marked Deserial = refl
+
+-- no word names two kinds
+one_kind : (kind other : Kind) → name_of kind ≡ name_of other → kind ≡ other
+one_kind kind other same = sym (is_marked kind) ∙ ap (λ name. marked (mark name)) same ∙ is_marked other
 
 pub one_form : (words : List (List ℕ)) (one other : Form) → IsForm one words → IsForm other words → one ≡ other
 one_form words Help Help a b = refl
@@ -41,6 +65,21 @@ one_form words (ShowInf inf id) Version a b = let e = sym a.0 ∙ b in absurd (c
 one_form words (ShowInf inf id) (RunZero sys log) a b = let e = sym a.0 ∙ b.0 in absurd (cc)
 one_form words (ShowInf inf id) (ShowImage sys) a b = let e = sym a.0 ∙ b.0 in absurd (cc)
 one_form words (ShowInf inf id) (ShowInf inf' id') a b = let e = sym a.0 ∙ b.0 in cc
+one_form words Help (Forge kind sys' inf') a b = let e = sym a ∙ b.0 in absurd (cc)
+one_form words Version (Forge kind sys' inf') a b = let e = sym a ∙ b.0 in absurd (cc)
+one_form words (RunZero sys log) (Forge kind sys' inf') a b = let e = sym a.0 ∙ b.0 in absurd (cc)
+one_form words (ShowImage sys) (Forge kind sys' inf') a b = let e = sym a.0 ∙ b.0 in absurd (cc)
+one_form words (ShowInf inf id) (Forge kind sys' inf') a b = let e = sym a.0 ∙ b.0 in absurd (cc)
+one_form words (Forge kind sys inf) Help a b = let e = sym a.0 ∙ b in absurd (cc)
+one_form words (Forge kind sys inf) Version a b = let e = sym a.0 ∙ b in absurd (cc)
+one_form words (Forge kind sys inf) (RunZero sys' log) a b = let e = sym a.0 ∙ b.0 in absurd (cc)
+one_form words (Forge kind sys inf) (ShowImage sys') a b = let e = sym a.0 ∙ b.0 in absurd (cc)
+one_form words (Forge kind sys inf) (ShowInf inf' id) a b = let e = sym a.0 ∙ b.0 in absurd (cc)
+one_form words (Forge kind sys inf) (Forge kind' sys' inf') a b =
+    let e = sym a.0 ∙ b.0 in
+    let names : name_of kind ≡ name_of kind' = cc in
+    let same = one_kind kind kind' names in
+    cc
 
 -- the status of a line that is printed: its own, 4 where a write failed, or 10
 pub status_of_line : (line tried : List ℕ) (wanted status : ℕ) (old new : Output) → Prints line tried wanted status old new
@@ -68,6 +107,13 @@ failed_showing answered refusal name status before after (showing.shown found an
 failed_showing answered refusal name status before after (showing.unread failure told) less = status_of_line _ _ _ _ _ _ told
 failed_showing answered refusal name status before after (showing.no_memory files writes told) less = inr (inr told.is_status)
 
+failed_forging : (kind : Kind) (sys inf : List ℕ) (status : ℕ) (before after : Devices) → EndsForging kind sys inf status before after
+    → before.storage.read_faults < after.storage.read_faults → (status ≡ 3) ⊎ ((status ≡ 4) × Rose before.output.print_faults after.output.print_faults) ⊎ (status ≡ 10)
+failed_forging kind sys inf status before after (forging.forged files zero_is same_output) less = let same = files.same_read_faults in absurd (omega arith)
+failed_forging kind sys inf status before after (forging.image_unwritten files failure told) less = let same = failure.same_read_faults in absurd (omega arith)
+failed_forging kind sys inf status before after (forging.inf_unwritten files failure told) less = let same = failure.same_read_faults in absurd (omega arith)
+failed_forging kind sys inf status before after (forging.no_memory files told) less = inr (inr told.is_status)
+
 -- a command of which a size or read failed
 pub failed_read : (form : Form) (status : ℕ) (before after : Devices) → Ends form status before after → before.storage.read_faults < after.storage.read_faults
     → (status ≡ 3) ⊎ ((status ≡ 4) × Rose before.output.print_faults after.output.print_faults) ⊎ (status ≡ 10)
@@ -76,6 +122,7 @@ failed_read Version status before after ends less = let same = ends.quiet.same_r
 failed_read (RunZero sys log) status before after ends less = failed_zero sys log status before after ends less
 failed_read (ShowImage sys) status before after ends less = failed_showing _ _ _ _ _ _ ends less
 failed_read (ShowInf inf id) status before after ends less = failed_showing _ _ _ _ _ _ ends less
+failed_read (Forge kind sys inf) status before after ends less = failed_forging _ _ _ _ _ _ ends less
 
 -- a line that is printed where no write failed, with a status that is neither 4 nor 10
 told_calmly : (line tried : List ℕ) (wanted status : ℕ) (old new : Output) → Prints line tried wanted status old new → (Rose old.print_faults new.print_faults → ⊥)
@@ -143,12 +190,19 @@ not_two_showing answered refusal name status before after apart (showing.shown f
 not_two_showing answered refusal name status before after apart (showing.unread failure told) = not_two_line _ _ 3 _ _ _ (λ e. omega arith) told
 not_two_showing answered refusal name status before after apart (showing.no_memory files writes told) = λ two. let e = told.is_status in absurd (omega arith)
 
+not_two_forging : (kind : Kind) (sys inf : List ℕ) (status : ℕ) (before after : Devices) → EndsForging kind sys inf status before after → status ≢ 2
+not_two_forging kind sys inf status before after (forging.forged files zero_is same_output) = λ two. absurd (omega arith)
+not_two_forging kind sys inf status before after (forging.image_unwritten files failure told) = not_two_line _ _ 4 _ _ _ (λ e. omega arith) told
+not_two_forging kind sys inf status before after (forging.inf_unwritten files failure told) = not_two_line _ _ 4 _ _ _ (λ e. omega arith) told
+not_two_forging kind sys inf status before after (forging.no_memory files told) = λ two. let e = told.is_status in absurd (omega arith)
+
 pub not_two : (form : Form) (status : ℕ) (before after : Devices) → Ends form status before after → status ≢ 2
 not_two Help status before after ends = not_two_line _ _ 0 _ _ _ (λ e. omega arith) ends.printed
 not_two Version status before after ends = not_two_line _ _ 0 _ _ _ (λ e. omega arith) ends.printed
 not_two (RunZero sys log) status before after ends = not_two_zero sys log status before after ends
 not_two (ShowImage sys) status before after ends = not_two_showing _ 5 _ _ _ _ (λ e. omega arith) ends
 not_two (ShowInf inf id) status before after ends = not_two_showing _ 6 _ _ _ _ (λ e. omega arith) ends
+not_two (Forge kind sys inf) status before after ends = not_two_forging _ _ _ _ _ _ ends
 
 -- ---- commands
 

@@ -1,4 +1,5 @@
 pub mod EndsLaws
+pub mod Forging
 pub mod Judging
 pub mod Lines
 pub mod LogPieces

@@ -1,4 +1,5 @@
 pub mod Devices
+pub mod ForgeCommand
 pub mod Printed
 pub mod Prints
 pub mod RunZero

@@ -27,11 +27,12 @@ memory_line = codes "memory\n"
 
 -- what `--help` prints: a line for each form of words
 abbrev pub help_text : List ℕ
-help_text = codes "run0 SYS LOG     run the DriverEntry of the driver image SYS alone, and write its log to LOG\n"
-    ++ codes "show-image SYS   show the headers, sections, imports and relocations of the driver image SYS\n"
-    ++ codes "show-inf INF ID  show the parameters that the INF file INF gives the hardware id ID\n"
-    ++ codes "--help           list the commands\n"
-    ++ codes "--version        print the version\n"
+help_text = codes "run0 SYS LOG        run the DriverEntry of the driver image SYS alone, and write its log to LOG\n"
+    ++ codes "show-image SYS      show the headers, sections, imports and relocations of the driver image SYS\n"
+    ++ codes "show-inf INF ID     show the parameters that the INF file INF gives the hardware id ID\n"
+    ++ codes "forge KIND SYS INF  write the image SYS and the INF file INF of a test miniport: idle, double, scarce, mute or deserial\n"
+    ++ codes "--help              list the commands\n"
+    ++ codes "--version           print the version\n"
 
 -- what `--version` prints: the program and its version
 abbrev pub version_line : List ℕ

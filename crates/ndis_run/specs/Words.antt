@@ -1,6 +1,8 @@
 -- The forms of words: what a command line may say. No list of words has two forms. (The project's own: docs/PRINTED.md.)
-use Rattle.std.specs.Prelude.{◌≡◌, ℕ, Bool, false, List, [], ◌∷◌, codes, nat_eq}
+use Rattle.std.specs.Prelude.{◌≡◌, ◌⊎◌, ℕ, Bool, false, List, [], ◌∷◌, codes, nat_eq}
 use Rattle.std.specs.List.{starts_with}
+use Rattle.forged_miniports.specs.declared.kind.Kind.{Kind}
+use Rattle.forged_miniports.specs.Kinds.{name_of}
 use Rattle.ndis_run.specs.declared.words.Command.{Command}
 use Rattle.ndis_run.specs.declared.words.Command.TheVariants as command
 
@@ -14,6 +16,8 @@ pub data Form : Type 0 where
   ShowImage : List ℕ → Form
   -- `show-inf INF ID`
   ShowInf : List ℕ → List ℕ → Form
+  -- `forge KIND SYS INF`
+  Forge : Kind → List ℕ → List ℕ → Form
 
 -- an operand does not begin with `--`
 abbrev pub is_option : List ℕ → Bool
@@ -29,6 +33,7 @@ IsForm Version words = words ≡ codes "--version" ∷ []
 IsForm (RunZero sys log) words = (words ≡ codes "run0" ∷ sys ∷ log ∷ []) × IsOperand sys × IsOperand log
 IsForm (ShowImage sys) words = (words ≡ codes "show-image" ∷ sys ∷ []) × IsOperand sys
 IsForm (ShowInf inf id) words = (words ≡ codes "show-inf" ∷ inf ∷ id ∷ []) × IsOperand inf × IsOperand id
+IsForm (Forge kind sys inf) words = (words ≡ codes "forge" ∷ name_of kind ∷ sys ∷ inf ∷ []) × IsOperand sys × IsOperand inf
 
 -- a command's form
 abbrev pub form_of : Command → Form
@@ -37,6 +42,7 @@ form_of command.Version = Version
 form_of (command.RunZero sys log) = RunZero sys.now log.now
 form_of (command.ShowImage sys) = ShowImage sys.now
 form_of (command.ShowInf inf id) = ShowInf inf.now id.now
+form_of (command.Forge kind sys inf) = Forge kind sys.now inf.now
 
 -- a command of this form reads the file of this name
 abbrev pub Reads : Form → List ℕ → Type 0
@@ -48,6 +54,7 @@ Reads _ name = ⊥
 -- a command of this form makes the file of this name
 abbrev pub Makes : Form → List ℕ → Type 0
 Makes (RunZero sys log) name = name ≡ log
+Makes (Forge kind sys inf) name = (name ≡ sys) ⊎ (name ≡ inf)
 Makes _ name = ⊥
 
 -- the words are those of a command that reads, or that makes, the file of this name

@@ -1,6 +1,7 @@
 //! The top calls: the commands, run over files and a sink.
 #![tactic(auto)]
 
+pub mod forge_command;
 pub mod laws;
 mod log_file;
 pub mod ndis;

@@ -3,15 +3,18 @@
 ghost use Rattle.std.specs.Prelude.{◌≡◌, ℕ, IsTrue, string_bytes, map, List};
 ghost use Rattle.ndis_run.specs.Devices.{devices};
 ghost use Rattle.ndis_run.specs.Shown.{shown_image, shown_inf};
+ghost use Rattle.ndis_run.specs.ForgeCommand.{EndsForging};
 ghost use Rattle.ndis_run.specs.RunZero.{EndsZero};
 ghost use Rattle.ndis_run.specs.Showing.{EndsShowing};
 ghost use Rattle.ndis_run.specs.Tool.{Ends, EndsWithNoForm};
 ghost use Rattle.ndis_run.specs.Words.{Form, IsForm, IsInput, IsOutput, Makes, Reads, form_of};
 
+use crate::forge_command::{ForgeFailure, write_miniport};
 use crate::printing::{IMAGE_REFUSED, tell, tell_end, tell_memory, tell_unread, tell_unwritten};
 use crate::run_zero::{Failure, log_run};
 use crate::show::{ShowFailure, show_image, show_inf};
 use crate::words::{Command, command_of};
+use forged_miniports::Kind;
 use nd_base::{Files, Sink};
 use std::alloc::Global;
 
@@ -63,13 +66,35 @@ fn tell_inf<F: Files, O: Sink>(alloc: Global, inf: &str, id: &str, files: &mut F
     }
 }
 
+/// `forge KIND SYS INF`.
+fn forge_files<F: Files, O: Sink>(
+    alloc: Global,
+    kind: Kind,
+    sys: &str,
+    inf: &str,
+    files: &mut F,
+    out: &mut O,
+) -> u8
+    requires image { IsTrue (F.may_write files.old sys.now) }
+    requires inf { IsTrue (F.may_write files.old inf.now) }
+    ensures { EndsForging kind sys.now inf.now result (devices F.Files O.Sink files.old out.old) (devices F.Files O.Sink files.new out.new) }
+{
+    match write_miniport(alloc, files, kind, sys, inf) {
+        Ok(()) => 0,
+        Err(ForgeFailure::Memory) => tell_memory(out),
+        Err(ForgeFailure::Image) => tell_unwritten(alloc, out, sys),
+        Err(ForgeFailure::Inf) => tell_unwritten(alloc, out, inf),
+    }
+}
+
 /// What `--help` prints: the commands, one line each.
 pub const HELP: &str = "\
-run0 SYS LOG     run the DriverEntry of the driver image SYS alone, and write its log to LOG
-show-image SYS   show the headers, sections, imports and relocations of the driver image SYS
-show-inf INF ID  show the parameters that the INF file INF gives the hardware id ID
---help           list the commands
---version        print the version
+run0 SYS LOG        run the DriverEntry of the driver image SYS alone, and write its log to LOG
+show-image SYS      show the headers, sections, imports and relocations of the driver image SYS
+show-inf INF ID     show the parameters that the INF file INF gives the hardware id ID
+forge KIND SYS INF  write the image SYS and the INF file INF of a test miniport: idle, double, scarce, mute or deserial
+--help              list the commands
+--version           print the version
 ";
 
 /// What `--version` prints.
@@ -92,6 +117,7 @@ fn run_command<F: Files, O: Sink>(
         Command::RunZero { sys, log } => run_zero(alloc, sys, log, files, out),
         Command::ShowImage { sys } => tell_image(alloc, sys, files, out),
         Command::ShowInf { inf, id } => tell_inf(alloc, inf, id, files, out),
+        Command::Forge { kind, sys, inf } => forge_files(alloc, kind, sys, inf, files, out),
     }
 }
 

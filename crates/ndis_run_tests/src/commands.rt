@@ -103,11 +103,12 @@ fn wants_a_form_of_words(rt: HostRuntime) {
 #[test]
 fn prints_its_help(rt: HostRuntime) {
     let text = b"\
-run0 SYS LOG     run the DriverEntry of the driver image SYS alone, and write its log to LOG
-show-image SYS   show the headers, sections, imports and relocations of the driver image SYS
-show-inf INF ID  show the parameters that the INF file INF gives the hardware id ID
---help           list the commands
---version        print the version
+run0 SYS LOG        run the DriverEntry of the driver image SYS alone, and write its log to LOG
+show-image SYS      show the headers, sections, imports and relocations of the driver image SYS
+show-inf INF ID     show the parameters that the INF file INF gives the hardware id ID
+forge KIND SYS INF  write the image SYS and the INF file INF of a test miniport: idle, double, scarce, mute or deserial
+--help              list the commands
+--version           print the version
 ";
     assert!(rt; prints(rt.alloc(), &["--help"], 0, text));
     assert!(rt; prints(rt.alloc(), &["--version"], 0, b"hedzvaki 0.1.0\n"));

@@ -6,6 +6,8 @@ mod commands;
 #[cfg(test)]
 mod drivers;
 #[cfg(test)]
+mod forging;
+#[cfg(test)]
 mod real_devices;
 #[cfg(test)]
 mod runs;

@@ -28,3 +28,6 @@ returns-in-ShowImage g c = ends_as _ _ _ _ _ c.in-ShowImage.is c.tell_image.ensu
 
 pub returns-in-ShowInf : goal.returns-in-ShowInf
 returns-in-ShowInf g c = ends_as _ _ _ _ _ c.in-ShowInf.is c.tell_inf.ensures
+
+pub returns-in-Forge : goal.returns-in-Forge
+returns-in-Forge g c = ends_as _ _ _ _ _ c.in-Forge.is c.forge_files.ensures

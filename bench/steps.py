@@ -1,77 +1,19 @@
 #!/usr/bin/python3
-"""Times the steps of ia32_step over loops of 32-bit code, and Bochs over the same code where it is installed.
+"""Times `run0` over loops of 32-bit code, with the log written, and Bochs over the same code where it is installed.
 
-Usage: /usr/bin/python3 bench/steps.py
+Usage: python3 bench/steps.py    (after `rt run` or `rt lib` built crates/hedzvaki/out/hedzvaki)
 
-It proves and builds a program of a few lines over `step` first, in a repository of its own, which takes minutes; where STEP_BENCH names
-a file, that is the program, built: it is made where it does not stand. The program steps 10,000,000 times. Bochs (Debian: bochs,
-bochsbios, vgabios, bochs-term) boots from a floppy disk into flat 32-bit code and runs so many rounds of a loop; its time is that of the
-many rounds less that of a few, by the instructions that it counts itself. Times are of the processor (user), so that other work counts
-little. The code of `mix` is compiled by i686-w64-mingw32-gcc, or by gcc -m32; without either it is left out.
+Each loop is the DriverEntry of an image of its own, which runs until its 4,000,000 instructions are spent; the time of a run whose first
+instruction faults is taken off. Bochs (Debian: bochs, bochsbios, vgabios, bochs-term, bsdutils for script) boots from a floppy disk into
+flat 32-bit code and runs so many rounds of a loop; its time is that of the many rounds less that of a few, by the instructions that it
+counts itself. Times are of the processor, of the program and for it, the least of five runs of ours and of three of Bochs. The code of
+`mix` is compiled by i686-w64-mingw32-gcc, or by gcc -m32; without either it is left out.
 """
-import os, re, resource, shutil, struct, subprocess, sys, tempfile
+import os, re, resource, shutil, struct, subprocess, tempfile
 
 TOP = os.path.abspath(os.path.join(os.path.dirname(__file__), '..'))
-CRATES = {'nd_base': 'thiserror', 'nd_mem': 'nd_base', 'guest_map': 'nd_base nd_mem', 'codes': '', 'ia32_arithmetic': '',
-          'ia32_decode': 'codes', 'ia32_step': 'nd_base nd_mem guest_map codes ia32_decode ia32_arithmetic',
-          'step_bench': 'nd_base nd_mem ia32_step'}
-STEPS = 10_000_000
-PROGRAM = '''//! Steps 10,000,000 times through the code on standard input.
-#![tactic(auto)]
-
-use ia32_step::{Regs, Stepped, step};
-use nd_base::Addr;
-use nd_mem::{Memory, Rights};
-use std::alloc::Global;
-use std::io::{self, Read};
-
-const CODE: Rights = Rights {
-    read: true,
-    write: false,
-    execute: true,
-};
-
-const DATA: Rights = Rights {
-    read: true,
-    write: true,
-    execute: false,
-};
-
-/// Steps, until one does not go on.
-fn run(regs: &mut Regs, memory: &mut Memory) -> u32 {
-    let mut count = 0u32;
-    for _ in 0..10_000_000u32 {
-        match step(regs, memory) {
-            Stepped::Went => count = count.wrapping_add(1),
-            _ => return count,
-        }
-    }
-    count
-}
-
-/// As many regions as a driver has, with the code in one and data in the next.
-fn bench(alloc: Global, bytes: &[u8]) -> u32 {
-    let mut memory = Memory::new(alloc);
-    let _ = memory.add_region(alloc, Addr(0x8010_1000), 0x1000, CODE);
-    let _ = memory.add_region(alloc, Addr(0x8010_2000), 0x10_0000, DATA);
-    for k in 0..36u32 {
-        let _ = memory.add_region(alloc, Addr(0x8100_0000 + k * 0x10_0000), 0x1000, DATA);
-    }
-    let _ = memory.place(Addr(0x8010_1000), bytes);
-    let mut regs = Regs::new();
-    regs.eip = 0x8010_1000;
-    regs.general[4] = 0x8010_3000;
-    run(&mut regs, &mut memory)
-}
-
-fn main(rt: HostRuntime) -> io::Result<()> {
-    let mut bytes = Vec::new(rt.alloc());
-    rt.reader().read_to_end(&mut bytes)?;
-    let count = bench(rt.alloc(), &bytes);
-    println!(rt; "{count}")?;
-    Ok(())
-}
-'''
+PROGRAM = os.environ.get('HEDZVAKI') or os.path.join(TOP, 'crates/hedzvaki/out/hedzvaki')
+STEPS = 4_000_000
 MIX = '''/* A copy of a frame's bytes, and the sums of RFC 1071 over both. */
 typedef unsigned char byte;
 static unsigned checksum(const byte *at, unsigned count) {
@@ -105,25 +47,6 @@ def run(words, **how):
     return subprocess.run(words, check=True, **how)
 
 
-def program(folder):
-    path = os.environ.get('STEP_BENCH') or os.path.join(folder, 'step_bench')
-    if os.path.exists(path):
-        return path
-    repo = os.path.join(folder, 'repo')
-    for name in CRATES:
-        if name != 'step_bench':
-            shutil.copytree(f'{TOP}/crates/{name}', f'{repo}/crates/{name}', ignore=shutil.ignore_patterns('out', 'must-fail'))
-    os.makedirs(f'{repo}/crates/step_bench/src')
-    for name, text in {'HANDLES': 'Handles allowed: none.\n', 'crates.txt': ''.join(f'{n}: {d}\n' for n, d in CRATES.items()),
-                       'crates/step_bench/src/main.rt': PROGRAM}.items():
-        with open(f'{repo}/{name}', 'w') as out:
-            out.write(text)
-    with open(os.path.join(folder, 'log'), 'w') as log:
-        run(['rt', 'run'], cwd=f'{repo}/crates/step_bench', stdin=subprocess.DEVNULL, stdout=log, stderr=log)
-    shutil.copy(f'{repo}/crates/step_bench/out/step_bench', path)
-    return path
-
-
 def mixed(folder):
     for compiler in (['i686-w64-mingw32-gcc'], ['gcc', '-m32', '-fno-pic']):
         if shutil.which(compiler[0]):
@@ -148,14 +71,35 @@ def looped(body, base, rounds):
 
 
 def spent():
-    return resource.getrusage(resource.RUSAGE_CHILDREN).ru_utime
+    usage = resource.getrusage(resource.RUSAGE_CHILDREN)
+    return usage.ru_utime + usage.ru_stime
 
 
-def ours(path, body):
+def image(code):
+    """An image whose entry is the code, with 64 KiB of data behind it, at 0x80102000 when it is loaded."""
+    optional = struct.pack('<HBBIIIIII', 0x10B, 0, 0, 0x1000, 0x10000, 0, 0x1000, 0x1000, 0x2000)
+    optional += struct.pack('<IIIHHHHHHIIIIHH', 0x10000, 0x1000, 0x200, 5, 1, 0, 0, 5, 1, 0, 0x12000, 0x400, 0, 1, 0)
+    optional += struct.pack('<IIIIII', 0x40000, 0x1000, 0x100000, 0x1000, 0, 16) + bytes(128)
+    head = b'MZ'.ljust(60, b'\0') + struct.pack('<I', 64) + b'PE\0\0' + struct.pack('<HHIIIHH', 0x14C, 2, 0, 0, 0, len(optional), 0x102) + optional
+    head += struct.pack('<8sIIIIIIHHI', b'.text', 0x1000, 0x1000, 0x1000, 0x400, 0, 0, 0, 0, 0x60000020)
+    head += struct.pack('<8sIIIIIIHHI', b'.data', 0x10000, 0x2000, 0, 0, 0, 0, 0, 0, 0xC0000080)
+    return head.ljust(0x400, b'\0') + code.ljust(0x1000, b'\0')
+
+
+def run_once(folder, code):
+    path, log = os.path.join(folder, 'loop.sys'), os.path.join(folder, 'loop.log')
+    with open(path, 'wb') as out:
+        out.write(image(code))
     begun = spent()
-    answer = run([path], input=looped(body, 0x80104000, 0x7FFFFFFF), stdout=subprocess.PIPE).stdout
-    assert int(answer) == STEPS, answer
-    return STEPS / (spent() - begun)
+    told = subprocess.run([PROGRAM, 'run0', path, log], stdout=subprocess.PIPE, stderr=subprocess.STDOUT).stdout
+    return spent() - begun, told
+
+
+def ours(folder, body):
+    loop = looped(body, 0x80102000, 0x7FFFFFFF)
+    told = run_once(folder, loop)[1]
+    assert b'charged 4000000' in told, told
+    return STEPS / (min(run_once(folder, loop)[0] for _ in range(5)) - min(run_once(folder, b'\x0f\x0b')[0] for _ in range(5)))
 
 
 def disk(code):
@@ -196,14 +140,12 @@ def bochs_once(folder, body, rounds):
 
 
 def bochs(folder, body, rounds):
-    few, begun = bochs_once(folder, body, 10)
-    many, ended = bochs_once(folder, body, rounds)
-    return (many - few) / (ended - begun)
+    few, many = ([bochs_once(folder, body, n) for _ in range(3)] for n in (10, rounds))
+    return (many[0][0] - few[0][0]) / (min(time for _, time in many) - min(time for _, time in few))
 
 
 def main():
     with tempfile.TemporaryDirectory() as folder:
-        path = program(folder)
         bodies = {name: (bytes.fromhex(text.replace(' ', '')), rounds) for name, (text, rounds) in LOOPS.items()}
         mix = mixed(folder)
         if mix:
@@ -211,7 +153,7 @@ def main():
         there = shutil.which('bochs') and shutil.which('script')
         print('instructions (of a repeat: iterations) a second of the processor, in millions: ours' + (', Bochs, ratio' if there else ''))
         for name, (body, rounds) in bodies.items():
-            mine = ours(path, body)
+            mine = ours(folder, body)
             line = f'{name:16} {mine / 1e6:7.1f}'
             if there:
                 other = bochs(folder, body, rounds)
